@@ -1,0 +1,464 @@
+-- Characters that say a line are read as that line: so they say one line at most.
+-- Assumes nothing.
+use Prim.Native.Nat.{ℕ, zero, suc, _-_, _<_, _≤_}
+use native.Mathlib.Nat.{lt-of-lt-of-le}
+use native.Mathlib.Omega.{arith}
+use mathlib.Core.Path.{_≡_, refl, sym, ap, _∙_, subst}
+use mathlib.Core.Bool.{Bool, true, false, not, cond, _&&_, _||_}
+use mathlib.Core.Option.{none, some}
+use mathlib.Core.List.{List, [], _∷_, _++_, append-assoc, append-nil}
+use lib.Dec.{T, leb, ltb, eqb, eqb→eq, lit≤}
+use mir.Facts.{and-yes, yes-and, T-not, not-T, leb-yes, ltb-yes, yes-ltb, yes-leb}
+use borrow.Author.Tests.{ne-eqb}
+use Rattle.paper.specs.Lists.{empty, all, full, edge, words, until, trimStart, trimEnd}
+use Rattle.paper.specs.Text.Scalar.{between, isWhite, isSep}
+use Rattle.paper.specs.CharDef.Line.{Line, blank, category, range, isHash, isNameChar, isFieldChar, comment, begins0x, beginsWhite, zeroXs, Bound, Bounds, one, two, Names, BlankLine, RangeLine, CategoryLine, LineFits}
+use Rattle.paper.specs.Numbers.Numeral.{isDigit, plus, Numeral, dropPlus, numeral}
+use Rattle.paper.specs.CharDef.Read.{found, Edge, strip0x, parts, boundOf, fromParts, rangeOf, categoryOf, body, bodyLine, lineOf}
+use Rattle.paper.proofs.Lists.Facts.{T→true, T→false, apart, from-below, all-append, full-all, all-imp, full-imp, un, until-append, trimStart-append, trimEnd-append, words-word, words-run}
+use Rattle.paper.specs.CharDef.Line as line
+use Rattle.paper.specs.CharDef.Read as read
+
+-- ---- characters
+
+-- p's characters are q's, as a test
+abbrev imp : (ℕ → Bool) → (ℕ → Bool) → ℕ → Bool
+imp p q c = not (p c) || q c
+
+use-imp : (a b : Bool) → T (not a || b) → T a → T b
+use-imp true b t h = t
+use-imp false b t h = absurd h
+
+white-no-hash : (c : ℕ) → T (isWhite c) → T (un isHash c)
+unfolding isWhite
+white-no-hash = apart isWhite 35 refl
+
+sep-no-hash : (c : ℕ) → T (isSep c) → T (un isHash c)
+unfolding isSep
+sep-no-hash = apart isSep 35 refl
+
+name-no-hash : (c : ℕ) → T (isNameChar c) → T (un isHash c)
+unfolding isNameChar
+name-no-hash c t = and-yes (not (isWhite c)) (not (isHash c)) t .1
+
+name-no-white : (c : ℕ) → T (isNameChar c) → T (un isWhite c)
+unfolding isNameChar
+name-no-white c t = and-yes (not (isWhite c)) (not (isHash c)) t .0
+
+field-no-hash : (c : ℕ) → T (isFieldChar c) → T (un isHash c)
+unfolding isFieldChar
+field-no-hash c t = and-yes (not (isSep c)) (not (isHash c)) t .1
+
+field-no-sep : (c : ℕ) → T (isFieldChar c) → T (un isSep c)
+unfolding isFieldChar
+field-no-sep c t = and-yes (not (isSep c)) (not (isHash c)) t .0
+
+digit-small : (base c : ℕ) → base ≤ 16 → T (isDigit base c) → c < 103
+unfolding isDigit
+digit-small base c b t = go (between 48 57 c) (between 65 70 c) (between 97 102 c) (λ h. h) (λ h. h) (λ h. h) t
+  where
+    go : (x y z : Bool) → (T x → T (between 48 57 c)) → (T y → T (between 65 70 c)) → (T z → T (between 97 102 c))
+        → T (ltb (cond x (c - 48) (cond y (c - 55) (cond z (c - 87) 16))) base) → c < 103
+    go true y z f g h u = let k : c ≤ 57 = leb-yes (and-yes (leb 48 c) (leb c 57) (f tt) .1) in omega arith
+    go false true z f g h u = let k : c ≤ 70 = leb-yes (and-yes (leb 65 c) (leb c 70) (g tt) .1) in omega arith
+    go false false true f g h u = let k : c ≤ 102 = leb-yes (and-yes (leb 97 c) (leb c 102) (h tt) .1) in omega arith
+    go false false false f g h u = let k : 16 < base = ltb-yes u in omega arith
+
+digit-16 : (base c : ℕ) → base ≤ 16 → T (isDigit base c) → T (isDigit 16 c)
+unfolding isDigit
+digit-16 base c b t = yes-ltb (lt-of-lt-of-le (ltb-yes t) b)
+
+digit-name : (base : ℕ) → base ≤ 16 → (c : ℕ) → T (isDigit base c) → T (isNameChar c)
+unfolding isDigit isNameChar
+digit-name base b c t =
+    use-imp (isDigit 16 c) (isNameChar c) (from-below (imp (isDigit 16) isNameChar) 103 tt c (digit-small base c b t)) (digit-16 base c b t)
+
+digit-field : (base : ℕ) → base ≤ 16 → (c : ℕ) → T (isDigit base c) → T (isFieldChar c)
+unfolding isDigit isFieldChar
+digit-field base b c t =
+    use-imp (isDigit 16 c) (isFieldChar c) (from-below (imp (isDigit 16) isFieldChar) 103 tt c (digit-small base c b t)) (digit-16 base c b t)
+
+-- a digit is none of the characters that 16's digits are not
+pub digit-apart : (base k : ℕ) → base ≤ 16 → isDigit 16 k ≡ false → (c : ℕ) → T (isDigit base c) → T (not (eqb c k))
+digit-apart base k b e c t = apart (isDigit 16) k e c (digit-16 base c b t)
+
+-- ---- numerals
+
+module _ (base limit : ℕ) (b16 : base ≤ 16) where
+  sign-digits : (q : ℕ → Bool) → T (q 43) → ((c : ℕ) → T (isDigit base c) → T (q c))
+      → (sign ds : List ℕ) → T (plus sign) → T (full (isDigit base) ds) → T (full q (sign ++ ds))
+  sign-digits q q43 f [] ds p d = full-imp (isDigit base) q f ds d
+  sign-digits q q43 f (c ∷ []) ds p d =
+      yes-and (q c) (all q ds) (subst (λ k. T (q k)) (sym (eqb→eq c 43 p)) q43) (all-imp (isDigit base) q f ds (full-all (isDigit base) ds d))
+  sign-digits q q43 f (c ∷ e ∷ s) ds p d = absurd p
+
+  -- what holds of `+` and of digits holds of a numeral's characters
+  pub numeral-chars : (q : ℕ → Bool) → T (q 43) → ((c : ℕ) → T (isDigit base c) → T (q c))
+      → {cs : List ℕ} {n : ℕ} → Numeral base limit cs n → T (full q cs)
+  numeral-chars q q43 f r = rw (r .whole) (sign-digits q q43 f (r .sign) (r .digits) (r .signed) (r .spelled))
+
+  dropPlus-digits : (sign ds : List ℕ) → T (plus sign) → T (full (isDigit base) ds) → dropPlus (sign ++ ds) ≡ ds
+  dropPlus-digits [] [] p d = refl
+  dropPlus-digits [] (c ∷ ds) p d =
+      let h = and-yes (isDigit base c) (all (isDigit base) ds) d in
+      rw (T→false (eqb c 43) (digit-apart base 43 b16 (unfold isDigit in refl) c (h .0)))
+  dropPlus-digits (c ∷ []) ds p d = rw (T→true (eqb c 43) p)
+  dropPlus-digits (c ∷ e ∷ s) ds p d = absurd p
+
+  pub numeral-read : {cs : List ℕ} {n : ℕ} → Numeral base limit cs n → numeral base limit cs ≡ some n
+  unfolding numeral
+  numeral-read {cs} {n} r =
+      rw (r .whole, dropPlus-digits (r .sign) (r .digits) (r .signed) (r .spelled))
+      (rw (← r .value, T→true (full (isDigit base) (r .digits)) (r .spelled), T→true (leb n limit) (yes-leb (r .fits))))
+
+-- ---- bounds
+
+le16 : 16 ≤ 16
+le16 = lit≤ tt
+
+pub le10 : 10 ≤ 16
+le10 = lit≤ tt
+
+strip-none : (n : List ℕ) → T (not (begins0x n)) → strip0x n ≡ n
+strip-none [] t = refl
+strip-none (c ∷ []) t = refl
+strip-none (c ∷ d ∷ n) t = rw (T→false (eqb c 48 && eqb d 120) t)
+
+strip-all : (k : ℕ) (n : List ℕ) → T (not (begins0x n)) → strip0x (zeroXs k ++ n) ≡ n
+strip-all zero n t = strip-none n t
+strip-all (suc k) n t = strip-all k n t
+
+numeral-no-0x : (sign ds : List ℕ) → T (plus sign) → T (full (isDigit 16) ds) → T (not (begins0x (sign ++ ds)))
+numeral-no-0x [] [] p d = tt
+numeral-no-0x [] (c ∷ []) p d = tt
+numeral-no-0x [] (c ∷ e ∷ ds) p d =
+    let h = and-yes (isDigit 16 c) (all (isDigit 16) (e ∷ ds)) d in
+    let g = and-yes (isDigit 16 e) (all (isDigit 16) ds) (h .1) in
+    not-T (eqb c 48 && eqb e 120)
+    (λ t. T-not (eqb e 120) (and-yes (eqb c 48) (eqb e 120) t .1) (digit-apart 16 120 le16 (unfold isDigit in refl) e (g .0)))
+numeral-no-0x (c ∷ []) [] p d = tt
+numeral-no-0x (c ∷ []) (e ∷ ds) p d = rw (eqb→eq c 43 p) tt
+numeral-no-0x (c ∷ f ∷ s) ds p d = absurd p
+
+zeroXs-chars : (q : ℕ → Bool) → T (q 48) → T (q 120) → (k : ℕ) → T (all q (zeroXs k))
+zeroXs-chars q a b zero = tt
+zeroXs-chars q a b (suc k) = yes-and (q 48) (all q (120 ∷ zeroXs k)) a (yes-and (q 120) (all q (zeroXs k)) b (zeroXs-chars q a b k))
+
+append-full : (q : ℕ → Bool) (s t : List ℕ) → T (all q s) → T (full q t) → T (full q (s ++ t))
+append-full q [] t a b = b
+append-full q (c ∷ s) t a b = all-append q (c ∷ s) t a (full-all q t b)
+
+-- what holds of `0`, `x`, `+` and hex digits holds of a bound's characters
+bound-chars : (q : ℕ → Bool) → T (q 48) → T (q 120) → T (q 43) → ((c : ℕ) → T (isDigit 16 c) → T (q c))
+    → {least : ℕ} {cs : List ℕ} {v : ℕ} → Bound least cs v → T (full q cs)
+bound-chars q q0 qx q+ f b =
+    rw (b .whole)
+    (append-full q (zeroXs (b .times)) (b .numeral) (zeroXs-chars q q0 qx (b .times)) (numeral-chars 16 0xFFFF le16 q q+ f (b .number)))
+
+bound-read : {least : ℕ} {cs : List ℕ} {v : ℕ} → Bound least cs v → boundOf cs ≡ Edge.edge v
+unfolding boundOf
+bound-read b =
+    rw (
+      b .whole,
+      strip-all (b .times) (b .numeral) no0x,
+      numeral-read 16 0xFFFF le16 (b .number),
+      ne-eqb (b .code) 0xFEFF (b .noMark),
+      ne-eqb (b .code) 0xFFFE (b .noSwap),
+      b .says,
+    )
+  where
+    no0x : T (not (begins0x (b .numeral)))
+    no0x =
+        rw (b .number .whole)
+        (numeral-no-0x (b .number .sign) (b .number .digits) (b .number .signed) (b .number .spelled))
+
+isDot : ℕ → Bool
+isDot c = eqb c 46
+
+parts-one : (s : List ℕ) → T (all (λ c. not (eqb c 46)) s) → parts s ≡ s ∷ []
+parts-one [] a = refl
+parts-one (c ∷ []) a = refl
+parts-one (c ∷ d ∷ s) a =
+    let h = and-yes (not (eqb c 46)) (all (λ c. not (eqb c 46)) (d ∷ s)) a in
+    rw (T→false (eqb c 46) (h .0), parts-one (d ∷ s) (h .1))
+
+parts-two : (s t : List ℕ) → T (all (λ c. not (eqb c 46)) s) → parts (s ++ (46 ∷ 46 ∷ t)) ≡ s ∷ parts t
+parts-two [] t a = refl
+parts-two (c ∷ []) t a = rw (T→false (eqb c 46) (and-yes (not (eqb c 46)) true a .0))
+parts-two (c ∷ d ∷ s) t a =
+    let h = and-yes (not (eqb c 46)) (all (λ c. not (eqb c 46)) (d ∷ s)) a in
+    rw (T→false (eqb c 46) (h .0), parts-two (d ∷ s) t (h .1))
+
+no-dots : {least : ℕ} {cs : List ℕ} {v : ℕ} → Bound least cs v → T (all (λ c. not (eqb c 46)) cs)
+no-dots {least} {cs} b =
+    full-all (λ c. not (eqb c 46)) cs
+    (bound-chars (λ c. not (eqb c 46)) tt tt tt (digit-apart 16 46 le16 (unfold isDigit in refl)) b)
+
+bounds-read : {cs : List ℕ} {lower upper : ℕ} (names : List (List ℕ)) → Bounds cs lower upper
+    → fromParts (parts cs) names ≡ found (range lower upper names)
+unfolding fromParts
+bounds-read {cs} names (one b e) = rw (parts-one cs (no-dots b), bound-read b, e)
+bounds-read {cs} names (two l r w a b) =
+    rw (w, parts-two l r (no-dots a), parts-one r (no-dots b), bound-read a, bound-read b)
+
+-- what holds of `0`, `x`, `+`, hex digits and `.` holds of the bounds' characters
+bounds-chars : (q : ℕ → Bool) → T (q 48) → T (q 120) → T (q 43) → T (q 46) → ((c : ℕ) → T (isDigit 16 c) → T (q c))
+    → {cs : List ℕ} {lower upper : ℕ} → Bounds cs lower upper → T (full q cs)
+bounds-chars q q0 qx q+ qd f (one b e) = bound-chars q q0 qx q+ f b
+bounds-chars q q0 qx q+ qd f (two l r w a b) =
+    rw w
+    (append-full q l (46 ∷ 46 ∷ r) (full-all q l (bound-chars q q0 qx q+ f a))
+    (yes-and (q 46) (q 46 && all q r) qd (yes-and (q 46) (all q r) qd (full-all q r (bound-chars q q0 qx q+ f b)))))
+
+-- the first of them is `0x`
+zeroXs-0x : (k : ℕ) (s : List ℕ) → 1 ≤ k → begins0x (zeroXs k ++ s) ≡ true
+zeroXs-0x zero s h = absurd (native.Mathlib.Nat.not-suc-le-zero h)
+zeroXs-0x (suc k) s h = refl
+
+bound-0x : {cs : List ℕ} {v : ℕ} (s : List ℕ) → Bound 1 cs v → begins0x (cs ++ s) ≡ true
+bound-0x s b = rw (b .whole, append-assoc) (zeroXs-0x (b .times) (b .numeral ++ s) (b .enough))
+
+bounds-0x : {cs : List ℕ} {lower upper : ℕ} (s : List ℕ) → Bounds cs lower upper → begins0x (cs ++ s) ≡ true
+bounds-0x s (one b e) = bound-0x s b
+bounds-0x s (two l r w a b) = rw (w, append-assoc) (bound-0x ((46 ∷ 46 ∷ r) ++ s) a)
+
+-- ---- names
+
+edge-append : (p : ℕ → Bool) (w r : List ℕ) → T (full p w) → T (edge p (w ++ r))
+edge-append p [] r a = absurd a
+edge-append p (c ∷ w) r a = and-yes (p c) (all p w) a .0
+
+names-edge : {cs : List ℕ} {ns : List (List ℕ)} → Names cs ns → T (edge isWhite cs)
+names-edge (line.none e) = rw e tt
+names-edge (line.more {name = n} w r e fw fn t) = rw e (edge-append isWhite w (n ++ r) fw)
+
+names-no-hash : {cs : List ℕ} {ns : List (List ℕ)} → Names cs ns → T (all (un isHash) cs)
+names-no-hash (line.none e) = rw e tt
+names-no-hash (line.more {name = n} w r e fw fn t) =
+    rw e
+    (all-append (un isHash) w (n ++ r) (all-imp isWhite (un isHash) white-no-hash w (full-all isWhite w fw))
+    (all-append (un isHash) n r (all-imp isNameChar (un isHash) name-no-hash n (full-all isNameChar n fn)) (names-no-hash t)))
+
+names-words : {cs : List ℕ} {ns : List (List ℕ)} → Names cs ns → words isWhite cs ≡ ns
+names-words (line.none e) = rw e
+names-words (line.more {name = n} w r e fw fn t) =
+    ap (words isWhite) e
+    ∙ words-run isWhite w (n ++ r) (full-all isWhite w fw)
+    ∙ words-word isWhite n r (full-imp isNameChar (un isWhite) name-no-white n fn) (names-edge t)
+    ∙ ap (λ l. n ∷ l) (names-words t)
+
+-- white space behind a field and its names goes, and nothing else
+names-trim : (front f after : List ℕ) → T (full (un isWhite) f) → T (all isWhite after) → {cs : List ℕ} {ns : List (List ℕ)}
+    → Names cs ns → trimEnd isWhite (front ++ (f ++ (cs ++ after))) ≡ front ++ (f ++ cs)
+names-trim front f after s a (line.none e) = rw e (trimEnd-append isWhite front f after s a ∙ ap (λ l. front ++ l) (sym (append-nil f)))
+names-trim front f after s a (line.more {name = n} w r e fw fn t) =
+    let regroup : front ++ (f ++ (w ++ (n ++ r) ++ after)) ≡ front ++ (f ++ w) ++ (n ++ (r ++ after)) = simp append-assoc in
+    rw e
+    (ap (trimEnd isWhite) regroup
+    ∙ names-trim (front ++ (f ++ w)) n after (full-imp isNameChar (un isWhite) name-no-white n fn) a t
+    ∙ simp append-assoc)
+
+-- ---- lines
+
+-- the body is what stands between white space, before the comment
+body-of : (before core after rest : List ℕ) → T (all isWhite before) → T (all (un isHash) core) → T (all isWhite after) → T (comment rest)
+    → T (edge (un isWhite) (core ++ after)) → trimEnd isWhite (core ++ after) ≡ core
+    → body (before ++ (core ++ (after ++ rest))) ≡ core
+unfolding body
+body-of before core after rest wb nh wa cm op trimmed =
+    let regroup : before ++ (core ++ (after ++ rest)) ≡ before ++ (core ++ after) ++ rest = simp append-assoc in
+    ap (λ l. trimEnd isWhite (trimStart isWhite (until isHash l))) regroup
+    ∙ ap (λ l. trimEnd isWhite (trimStart isWhite l))
+    (until-append isHash (before ++ (core ++ after)) rest
+    (all-append (un isHash) before (core ++ after) (all-imp isWhite (un isHash) white-no-hash before wb)
+    (all-append (un isHash) core after nh (all-imp isWhite (un isHash) white-no-hash after wa))) cm)
+    ∙ ap (trimEnd isWhite) (trimStart-append isWhite before (core ++ after) wb op)
+    ∙ trimmed
+
+body-blank : (white rest : List ℕ) → T (all isWhite white) → T (comment rest) → body (white ++ rest) ≡ []
+unfolding body
+body-blank white rest w c =
+    ap (λ l. trimEnd isWhite (trimStart isWhite l)) (until-append isHash white rest (all-imp isWhite (un isHash) white-no-hash white w) c)
+    ∙ ap (λ l. trimEnd isWhite (trimStart isWhite l)) (sym (append-nil white))
+    ∙ ap (trimEnd isWhite) (trimStart-append isWhite white [] w tt)
+
+range-body : (s : List ℕ) → begins0x s ≡ true → bodyLine s ≡ rangeOf (words isWhite s)
+unfolding bodyLine
+range-body [] e = absurd (subst T (sym e) tt)
+range-body (c ∷ s) e = rw e
+
+category-body : (s : List ℕ) → T (not (empty s)) → begins0x s ≡ false → bodyLine s ≡ categoryOf (words isSep s)
+unfolding bodyLine
+category-body [] n e = absurd n
+category-body (c ∷ s) n e = rw e
+
+blank-complete : {cs : List ℕ} → BlankLine cs → lineOf cs ≡ found blank
+unfolding lineOf
+blank-complete l = rw (l .whole, body-blank (l .white) (l .rest) (l .isWhites) (l .isComment))
+
+full-edge : (p : ℕ → Bool) (s t : List ℕ) → T (full p s) → T (edge p (s ++ t))
+full-edge = edge-append
+
+range-complete : {cs : List ℕ} {lower upper : ℕ} {names : List (List ℕ)} → RangeLine cs lower upper names
+    → lineOf cs ≡ found (range lower upper names)
+unfolding lineOf
+range-complete {cs} {lower} {upper} {names} l =
+    ap bodyLine the-body
+    ∙ range-body (l .bounds ++ l .named) (bounds-0x (l .named) (l .bounded))
+    ∙ ap rangeOf
+    (words-word isWhite (l .bounds) (l .named) solid (names-edge (l .names-in)) ∙ ap (λ w. l .bounds ∷ w) (names-words (l .names-in)))
+    ∙ unfold rangeOf in bounds-read names (l .bounded)
+  where
+    chars : T (full isNameChar (l .bounds))
+    chars = bounds-chars isNameChar (unfold isNameChar in tt) (unfold isNameChar in tt) (unfold isNameChar in tt) (unfold isNameChar in tt) (digit-name 16 le16) (l .bounded)
+
+    solid : T (full (un isWhite) (l .bounds))
+    solid = full-imp isNameChar (un isWhite) name-no-white (l .bounds) chars
+
+    regroup : l .before ++ (l .bounds ++ (l .named ++ (l .after ++ l .rest))) ≡ l .before ++ (l .bounds ++ l .named ++ (l .after ++ l .rest))
+    regroup = simp append-assoc
+
+    the-body : body cs ≡ l .bounds ++ l .named
+    the-body =
+        ap body (l .whole ∙ regroup)
+        ∙ body-of (l .before) (l .bounds ++ l .named) (l .after) (l .rest) (l .whiteBefore)
+        (all-append (un isHash) (l .bounds) (l .named) (all-imp isNameChar (un isHash) name-no-hash (l .bounds) (full-all isNameChar (l .bounds) chars)) (names-no-hash (l .names-in)))
+        (l .whiteAfter) (l .isComment)
+        (rw append-assoc (full-edge (un isWhite) (l .bounds) (l .named ++ l .after) solid))
+        (ap (trimEnd isWhite) (append-assoc (l .bounds) (l .named) (l .after)) ∙ names-trim [] (l .bounds) (l .after) solid (l .whiteAfter) (l .names-in))
+
+flag-field : {cs : List ℕ} {n : ℕ} → Numeral 10 0xFFFF_FFFF cs n → T (full isFieldChar cs)
+flag-field r = numeral-chars 10 0xFFFF_FFFF le10 isFieldChar (unfold isFieldChar in tt) (digit-field 10 le10) r
+
+flag-name : {cs : List ℕ} {n : ℕ} → Numeral 10 0xFFFF_FFFF cs n → T (full isNameChar cs)
+flag-name r = numeral-chars 10 0xFFFF_FFFF le10 isNameChar (unfold isNameChar in tt) (digit-name 10 le10) r
+
+-- a name and a separator do not begin `0x` where the name does not
+sep-no-x : (c : ℕ) → T (isSep c) → T (not (eqb c 120))
+unfolding isSep
+sep-no-x = apart isSep 120 refl
+
+name-no-0x : (name gap s : List ℕ) → T (full isFieldChar name) → T (not (begins0x name)) → T (full isSep gap) → begins0x (name ++ (gap ++ s)) ≡ false
+name-no-0x [] gap s f n g = absurd f
+name-no-0x (c ∷ []) [] s f n g = absurd g
+name-no-0x (c ∷ []) (d ∷ gap) s f n g =
+    T→false (eqb c 48 && eqb d 120)
+    (not-T (eqb c 48 && eqb d 120)
+    (λ t. T-not (eqb d 120) (and-yes (eqb c 48) (eqb d 120) t .1) (sep-no-x d (and-yes (isSep d) (all isSep gap) g .0))))
+name-no-0x (c ∷ d ∷ name) gap s f n g = T→false (eqb c 48 && eqb d 120) n
+
+no-hash-name : (s : List ℕ) → T (full isNameChar s) → T (all (un isHash) s)
+no-hash-name s f = all-imp isNameChar (un isHash) name-no-hash s (full-all isNameChar s f)
+
+no-hash-field : (s : List ℕ) → T (full isFieldChar s) → T (all (un isHash) s)
+no-hash-field s f = all-imp isFieldChar (un isHash) field-no-hash s (full-all isFieldChar s f)
+
+no-hash-sep : (s : List ℕ) → T (full isSep s) → T (all (un isHash) s)
+no-hash-sep s f = all-imp isSep (un isHash) sep-no-hash s (full-all isSep s f)
+
+no-sep : (s : List ℕ) → T (full isFieldChar s) → T (full (un isSep) s)
+no-sep s f = full-imp isFieldChar (un isSep) field-no-sep s f
+
+opens : (s t : List ℕ) → T (full isFieldChar s) → T (not (beginsWhite s)) → T (edge (un isWhite) (s ++ t))
+opens [] t f o = absurd f
+opens (c ∷ s) t f o = o
+
+not-empty : (s t : List ℕ) → T (full isFieldChar s) → T (not (empty (s ++ t)))
+not-empty [] t f = absurd f
+not-empty (c ∷ s) t f = tt
+
+-- a separator and a field
+gap-word : (gap f r : List ℕ) → T (full isSep gap) → T (full isFieldChar f) → T (edge isSep r) → words isSep (gap ++ (f ++ r)) ≡ f ∷ words isSep r
+gap-word gap f r g h e = words-run isSep gap (f ++ r) (full-all isSep gap g) ∙ words-word isSep f r (no-sep f h) e
+
+module _ {cs name : List ℕ} {invoke group : Bool} {len : ℕ} (l : CategoryLine cs name invoke group len) where
+  front : List ℕ
+  front = name ++ (l .gap₁ ++ (l .field₁ ++ (l .gap₂ ++ (l .field₂ ++ l .gap₃))))
+
+  core : List ℕ
+  core = name ++ (l .gap₁ ++ (l .field₁ ++ (l .gap₂ ++ (l .field₂ ++ (l .gap₃ ++ l .field₃)))))
+
+  f₁ : T (full isFieldChar (l .field₁))
+  f₁ = flag-field (l .invokes .spelled)
+
+  f₂ : T (full isFieldChar (l .field₂))
+  f₂ = flag-field (l .groups .spelled)
+
+  f₃ : T (full isFieldChar (l .field₃))
+  f₃ = flag-field (l .lengths)
+
+  core-regroup : core ++ l .after ≡ front ++ (l .field₃ ++ l .after)
+  unfolding core front
+  core-regroup = simp append-assoc
+
+  core-front : front ++ l .field₃ ≡ core
+  unfolding core front
+  core-front = simp append-assoc
+
+  whole-regroup : cs ≡ l .before ++ (core ++ (l .after ++ l .rest))
+  unfolding core
+  whole-regroup = l .whole ∙ simp append-assoc
+
+  core-no-hash : T (all (un isHash) core)
+  unfolding core
+  core-no-hash =
+      all-append (un isHash) name _ (no-hash-field name (l .nameChars))
+      (all-append (un isHash) (l .gap₁) _ (no-hash-sep (l .gap₁) (l .sep₁))
+      (all-append (un isHash) (l .field₁) _ (no-hash-field (l .field₁) f₁)
+      (all-append (un isHash) (l .gap₂) _ (no-hash-sep (l .gap₂) (l .sep₂))
+      (all-append (un isHash) (l .field₂) _ (no-hash-field (l .field₂) f₂)
+      (all-append (un isHash) (l .gap₃) _ (no-hash-sep (l .gap₃) (l .sep₃)) (no-hash-field (l .field₃) f₃))))))
+
+  core-opens : T (edge (un isWhite) (core ++ l .after))
+  unfolding core
+  core-opens = rw append-assoc (opens name _ (l .nameChars) (l .nameOpens))
+
+  core-body : body cs ≡ core
+  core-body =
+      ap body whole-regroup
+      ∙ body-of (l .before) core (l .after) (l .rest) (l .whiteBefore) core-no-hash (l .whiteAfter) (l .isComment) core-opens
+      (ap (trimEnd isWhite) core-regroup
+      ∙ trimEnd-append isWhite front (l .field₃) (l .after) (full-imp isNameChar (un isWhite) name-no-white (l .field₃) (flag-name (l .lengths))) (l .whiteAfter)
+      ∙ core-front)
+
+  core-words : words isSep core ≡ name ∷ l .field₁ ∷ l .field₂ ∷ l .field₃ ∷ []
+  unfolding core
+  core-words =
+      words-word isSep name _ (no-sep name (l .nameChars)) (edge-append isSep (l .gap₁) _ (l .sep₁))
+      ∙ ap (λ w. name ∷ w) (gap-word (l .gap₁) (l .field₁) _ (l .sep₁) f₁ (edge-append isSep (l .gap₂) _ (l .sep₂))
+      ∙ ap (λ w. l .field₁ ∷ w) (gap-word (l .gap₂) (l .field₂) _ (l .sep₂) f₂ (edge-append isSep (l .gap₃) _ (l .sep₃))
+      ∙ ap (λ w. l .field₂ ∷ w) (words-run isSep (l .gap₃) (l .field₃) (full-all isSep (l .gap₃) (l .sep₃))
+      ∙ ap (words isSep) (sym (append-nil (l .field₃)))
+      ∙ words-word isSep (l .field₃) [] (no-sep (l .field₃) f₃) tt)))
+
+  core-category : categoryOf (name ∷ l .field₁ ∷ l .field₂ ∷ l .field₃ ∷ []) ≡ found (category name invoke group len)
+  unfolding categoryOf
+  core-category =
+      rw (
+        numeral-read 10 0xFFFF_FFFF le10 (l .invokes .spelled),
+        numeral-read 10 0xFFFF_FFFF le10 (l .groups .spelled),
+        numeral-read 10 0xFFFF_FFFF le10 (l .lengths),
+        l .invokes .says,
+        l .groups .says,
+      )
+
+  category-complete : lineOf cs ≡ found (category name invoke group len)
+  unfolding lineOf core
+  category-complete =
+      ap bodyLine core-body
+      ∙ category-body core (not-empty name _ (l .nameChars)) (name-no-0x name (l .gap₁) _ (l .nameChars) (l .nameNo0x) (l .sep₁))
+      ∙ ap categoryOf core-words
+      ∙ core-category
+
+-- what says a line is read as that line
+pub line-complete : (cs : List ℕ) (l : Line) → LineFits cs l → lineOf cs ≡ found l
+line-complete cs blank f = blank-complete f
+line-complete cs (category name invoke group len) f = category-complete f
+line-complete cs (range lower upper names) f = range-complete f
+
+-- so it says one line at most
+pub line-unique : (cs : List ℕ) (l m : Line) → LineFits cs l → LineFits cs m → l ≡ m
+line-unique cs l m f g =
+    let e : lineOf cs ≡ found l = line-complete cs l f in
+    let d : lineOf cs ≡ found m = line-complete cs m g in
+    cc

@@ -1,0 +1,395 @@
+-- A refused text names its first bad line: the lines before it are accepted by themselves, and nothing put after it and its
+-- LF makes the text acceptable. On bytes.
+-- Assumes nothing.
+use Prim.Native.Nat.{ℕ, zero, suc, _+_, _<_, _≤_}
+use native.Mathlib.Nat.{le-refl, le-of-suc-le-suc, not-suc-le-zero}
+use native.Mathlib.Decide.{decLt}
+use native.Mathlib.Omega.{arith}
+use mathlib.Core.Path.{_≡_, refl, sym, ap, ap₂, _∙_, subst}
+use mathlib.Core.Bool.{Bool, true, false, not, cond}
+use mathlib.Core.List.{List, [], _∷_, _++_, map, append-assoc, append-nil}
+use lib.Dec.{T, leb, ltb}
+use lib.ListN.{length, take, length-append, length-map}
+use mir.Facts.{and-yes, yes-and, not-T, ltb-no, no-ltb, leb-yes}
+use borrow.Author.Tests.{eqb-true}
+use Rattle.paper.specs.Lists.{empty, all, cut}
+use Rattle.paper.specs.Text.Scalar.{isScalar, utf8Of, utf8}
+use Rattle.paper.specs.CharDef.Reading.{Reading, Fits, joinLF, noLF, isLF}
+use Rattle.paper.specs.Text.Decode.{Text, broken, chars, decode}
+use Rattle.paper.specs.CharDef.Read.{lineOf, body, bodyLine, Step, go-on, stop, enter, verdict, accepted, refused, afterLine, readLines, nothingRead, readChars, readText}
+use Rattle.paper.specs.CharDef.Bad.{FirstBad, ended, linesBefore, throughLine}
+use Rattle.paper.proofs.Lists.Facts.{T→true, T→false, all-append, cut-run, pushAll-first}
+use Rattle.paper.proofs.CharDef.Sound.{false→T, zero-one, all-left, all-right, cut-pieces}
+use Rattle.paper.proofs.Text.Code.{decode-complete, decode-sound}
+use Rattle.paper.proofs.Text.Bytes.{utf8-append, cut-utf8}
+use Rattle.paper.proofs.CharDef.Whole.{map-append, cut-joined, pieces-joined, refused-accepted}
+use Rattle.paper.proofs.CharDef.Accepts.{fits-accepted, accepted-fits}
+
+-- ---- where lines stop
+
+pub accepted-refused {ℓ} : {X : Type ℓ} {n k : ℕ} {r : Reading} → accepted r ≡ refused n k → X
+accepted-refused e = zero-one (cc)
+
+-- the lines that are read, the one that stops, and the rest
+pub record Stops (k : ℕ) (css : List (List ℕ)) (r : Reading) (n place : ℕ) : Type 0 where
+  pub pre : List (List ℕ)
+  pub bad : List ℕ
+  pub post : List (List ℕ)
+  pub state : Reading
+  pub whole : css ≡ pre ++ (bad ∷ post)
+  pub at : place ≡ k + length pre
+  pub read : readLines k pre r ≡ accepted state
+  pub stops : verdict state bad ≡ stop n
+
+pub lines-stop : (css : List (List ℕ)) (k : ℕ) (r : Reading) (n place : ℕ) → readLines k css r ≡ refused n place → Stops k css r n place
+unfolding readLines
+lines-stop [] k r n place h = accepted-refused h
+lines-stop (cs ∷ css) k r n place h = go (verdict r cs) refl h (λ r′. lines-stop css (suc k) r′ n place)
+  where
+    go : (o : Step) → verdict r cs ≡ o → afterLine k o (λ r′. readLines (suc k) css r′) ≡ refused n place
+        → ((r′ : Reading) → readLines (suc k) css r′ ≡ refused n place → Stops (suc k) css r′ n place) → Stops k (cs ∷ css) r n place
+    go (stop m) e h ih =
+        let em : m ≡ n = cc in
+        let ek : k ≡ place = cc in
+        record { pre = []; bad = cs; post = css; state = r; whole = refl; at = omega arith; read = refl; stops = e ∙ ap stop em }
+    go (go-on r′) e h ih =
+        let s = ih r′ h in
+        let i : place ≡ suc k + length (s .pre) = s .at in
+        record {
+          pre = cs ∷ s .pre;
+          bad = s .bad;
+          post = s .post;
+          state = s .state;
+          whole = ap (λ l. cs ∷ l) (s .whole);
+          at = omega arith;
+          read = rw e (s .read);
+          stops = s .stops;
+        }
+
+pub lines-append : (a b : List (List ℕ)) (k : ℕ) (r s : Reading) → readLines k a r ≡ accepted s
+    → readLines k (a ++ b) r ≡ readLines (k + length a) b s
+unfolding readLines
+lines-append [] b k r s h =
+    let e : r ≡ s = cc in
+    let z : k ≡ k + 0 = omega arith in
+    ap₂ (λ i t. readLines i b t) z e
+lines-append (c ∷ a) b k r s h = go (verdict r c) h (λ r′. lines-append a b (suc k) r′ s)
+  where
+    go : (o : Step) → afterLine k o (λ r′. readLines (suc k) a r′) ≡ accepted s
+        → ((r′ : Reading) → readLines (suc k) a r′ ≡ accepted s → readLines (suc k) (a ++ b) r′ ≡ readLines (suc k + length a) b s)
+        → afterLine k o (λ r′. readLines (suc k) (a ++ b) r′) ≡ readLines (k + suc (length a)) b s
+    go (stop n) h ih = refused-accepted h
+    go (go-on r′) h ih =
+        let e : suc k + length a ≡ k + suc (length a) = omega arith in
+        ih r′ h ∙ ap (λ i. readLines i b s) e
+
+module _ {k : ℕ} {css : List (List ℕ)} {r : Reading} {n place : ℕ} (s : Stops k css r n place) where
+  -- whatever stands behind the bad line
+  stopped : (post : List (List ℕ)) → readLines k (s .pre ++ (s .bad ∷ post)) r ≡ refused n place
+  unfolding readLines
+  stopped post =
+      lines-append (s .pre) (s .bad ∷ post) k r (s .state) (s .read)
+      ∙ rw (s .stops) (ap (refused n) (sym (s .at)))
+
+  -- an empty line in its place
+  blank-end : readLines k (s .pre ++ ([] ∷ [])) r ≡ accepted (s .state)
+  unfolding readLines verdict lineOf body bodyLine enter
+  blank-end = lines-append (s .pre) ([] ∷ []) k r (s .state) (s .read)
+
+-- ---- lines and their LF
+
+join-last : (pre : List (List ℕ)) (l : List ℕ) → joinLF (pre ++ (l ∷ [])) ≡ ended pre ++ l
+join-last [] l = refl
+join-last (p ∷ []) l = sym (append-assoc p (10 ∷ []) l)
+join-last (p ∷ q ∷ pre) l =
+    ap (λ x. p ++ (10 ∷ x)) (join-last (q ∷ pre) l) ∙ sym (append-assoc p (10 ∷ ended (q ∷ pre)) l)
+
+-- what stands behind the last of the first lines
+behind : List (List ℕ) → List ℕ
+behind [] = []
+behind (m ∷ ms) = 10 ∷ joinLF (m ∷ ms)
+
+join-front : (pre : List (List ℕ)) (l : List ℕ) (post : List (List ℕ)) → joinLF (pre ++ (l ∷ post)) ≡ joinLF (pre ++ (l ∷ [])) ++ behind post
+unfolding behind
+join-front [] l [] = sym (append-nil l)
+join-front [] l (m ∷ post) = refl
+join-front (p ∷ []) l post =
+    ap (λ x. p ++ (10 ∷ x)) (join-front [] l post) ∙ sym (append-assoc p (10 ∷ l) (behind post))
+join-front (p ∷ q ∷ pre) l post =
+    ap (λ x. p ++ (10 ∷ x)) (join-front (q ∷ pre) l post) ∙ sym (append-assoc p (10 ∷ joinLF (q ∷ (pre ++ (l ∷ [])))) (behind post))
+
+ten : (cs : List ℕ) → utf8 (10 ∷ cs) ≡ 10 ∷ utf8 cs
+unfolding utf8 utf8Of
+ten cs = refl
+
+ended-utf8 : (css : List (List ℕ)) → ended (map utf8 css) ≡ utf8 (ended css)
+unfolding utf8
+ended-utf8 [] = refl
+ended-utf8 (l ∷ css) = ap (λ x. utf8 l ++ (10 ∷ x)) (ended-utf8 css) ∙ sym (utf8-append l (10 ∷ ended css) ∙ ap (λ x. utf8 l ++ x) (ten (ended css)))
+
+join-utf8 : (css : List (List ℕ)) → joinLF (map utf8 css) ≡ utf8 (joinLF css)
+unfolding utf8
+join-utf8 [] = refl
+join-utf8 (l ∷ []) = refl
+join-utf8 (l ∷ m ∷ css) =
+    ap (λ x. utf8 l ++ (10 ∷ x)) (join-utf8 (m ∷ css)) ∙ sym (utf8-append l (10 ∷ joinLF (m ∷ css)) ∙ ap (λ x. utf8 l ++ x) (ten (joinLF (m ∷ css))))
+
+take-before : {A B : Type 0} (f : A → B) (pre : List A) (x : A) (post : List A) → take (length pre) (map f (pre ++ (x ∷ post))) ≡ map f pre
+take-before f [] x post = refl
+take-before f (p ∷ pre) x post = ap (λ l. f p ∷ l) (take-before f pre x post)
+
+take-through : {A B : Type 0} (f : A → B) (pre : List A) (x : A) (post : List A) → take (suc (length pre)) (map f (pre ++ (x ∷ post))) ≡ map f (pre ++ (x ∷ []))
+take-through f [] x post = refl
+take-through f (p ∷ pre) x post = ap (λ l. f p ∷ l) (take-through f pre x post)
+
+some-last : {A : Type 0} (pre : List A) (x : A) → T (not (empty (pre ++ (x ∷ []))))
+some-last [] x = tt
+some-last (p ∷ pre) x = tt
+
+-- lines and LF and more
+cut-through : (css : List (List ℕ)) (u : List ℕ) → T (not (empty css)) → T (all noLF css) → cut isLF (joinLF css ++ (10 ∷ u)) ≡ css ++ cut isLF u
+cut-through [] u n a = absurd n
+cut-through (l ∷ []) u n a =
+    let h = and-yes (noLF l) true a in
+    cut-run isLF l (10 ∷ u) (h .0) ∙ pushAll-first isLF l (cut isLF u)
+cut-through (l ∷ m ∷ css) u n a =
+    let h = and-yes (noLF l) (all noLF (m ∷ css)) a in
+    ap (cut isLF) (append-assoc l (10 ∷ joinLF (m ∷ css)) (10 ∷ u))
+    ∙ cut-run isLF l (10 ∷ (joinLF (m ∷ css) ++ (10 ∷ u))) (h .0)
+    ∙ pushAll-first isLF l (cut isLF (joinLF (m ∷ css) ++ (10 ∷ u)))
+    ∙ ap (λ x. l ∷ x) (cut-through (m ∷ css) u tt (h .1))
+
+-- ---- characters and bytes
+
+pub LF-ascii : (b : ℕ) → T (leb 0x80 b) → T (not (isLF b))
+LF-ascii b t = not-T (isLF b) (λ e. high (leb-yes t) (T→true _ e))
+  where
+    high : 0x80 ≤ b → isLF b ≡ true → ⊥
+    high h e = let i : b ≡ 10 = eqb-true b 10 e in omega arith
+
+-- two texts of characters with the same bytes are the same
+pub utf8-one : (s t : List ℕ) → T (all isScalar s) → T (all isScalar t) → utf8 s ≡ utf8 t → s ≡ t
+unfolding decode
+utf8-one s t a b e =
+    let d : chars s ≡ chars t = sym (decode-complete s 0 a) ∙ ap decode e ∙ decode-complete t 0 b in
+    cc
+
+lines-scalar : (css : List (List ℕ)) → T (all isScalar (joinLF css)) → T (all (λ l. all isScalar l) css)
+lines-scalar [] a = tt
+lines-scalar (l ∷ []) a = yes-and (all isScalar l) true a tt
+lines-scalar (l ∷ m ∷ css) a =
+    yes-and (all isScalar l) (all (λ l. all isScalar l) (m ∷ css)) (all-left isScalar l (10 ∷ joinLF (m ∷ css)) a)
+    (lines-scalar (m ∷ css) (and-yes (isScalar 10) _ (all-right isScalar l (10 ∷ joinLF (m ∷ css)) a) .1))
+
+nil-cons {ℓ} : {X : Type ℓ} {l : List ℕ} {ls : List (List ℕ)} → [] ≡ l ∷ ls → X
+nil-cons e = zero-one (cc)
+
+-- lines of characters whose bytes begin with those of other lines begin with these
+same-front : (fs ts more : List (List ℕ)) → T (all (λ l. all isScalar l) fs) → T (all (λ l. all isScalar l) ts)
+    → map utf8 ts ≡ map utf8 fs ++ more → (rest : List (List ℕ)) × (ts ≡ fs ++ rest)
+same-front [] ts more a b e = (ts, refl)
+same-front (c ∷ fs) [] more a b e = nil-cons e
+same-front (c ∷ fs) (t ∷ ts) more a b e =
+    let ha = and-yes (all isScalar c) _ a in
+    let hb = and-yes (all isScalar t) _ b in
+    let first : utf8 t ≡ utf8 c = cc in
+    let later : map utf8 ts ≡ map utf8 fs ++ more = cc in
+    let (rest, i) = same-front fs ts more (ha .1) (hb .1) later in
+    (rest, ap₂ (λ x y. x ∷ y) (utf8-one t c (hb .0) (ha .0) first) i)
+
+-- the answer to lines of characters
+pub read-lines : (css : List (List ℕ)) → T (not (empty css)) → T (all noLF css) → T (all isScalar (joinLF css)) → length (utf8 (joinLF css)) ≤ 65536
+    → readText (utf8 (joinLF css)) ≡ readLines 1 css nothingRead
+unfolding readText readChars decode
+read-lines css n a sc short =
+    rw (T→false (ltb 65536 (length (utf8 (joinLF css)))) (no-ltb short), decode-complete (joinLF css) 0 sc, cut-joined css n a)
+
+-- ---- the first bad line
+
+module _ (bytes cs : List ℕ) (n place : ℕ) (short : length bytes ≤ 65536) (scalars : T (all isScalar cs)) (encoded : bytes ≡ utf8 cs) (s : Stops 1 (cut isLF cs) nothingRead n place) where
+  -- the bad line and those before it
+  front : List (List ℕ)
+  front = s .pre ++ (s .bad ∷ [])
+
+  place-is : place ≡ suc (length (s .pre))
+  place-is = let h : place ≡ 1 + length (s .pre) = s .at in omega arith
+
+  byte-lines : cut isLF bytes ≡ map utf8 (s .pre ++ (s .bad ∷ s .post))
+  byte-lines = ap (cut isLF) encoded ∙ cut-utf8 isLF LF-ascii cs ∙ ap (map utf8) (s .whole)
+
+  through-is : throughLine place bytes ≡ utf8 (joinLF front)
+  unfolding throughLine front
+  through-is =
+      ap₂ (λ k l. joinLF (take k l)) place-is byte-lines
+      ∙ ap joinLF (take-through utf8 (s .pre) (s .bad) (s .post))
+      ∙ join-utf8 (s .pre ++ (s .bad ∷ []))
+
+  before-is : linesBefore place bytes ≡ utf8 (ended (s .pre))
+  unfolding linesBefore
+  before-is =
+      ap (λ k. linesBefore k bytes) place-is
+      ∙ ap (λ l. ended (take (length (s .pre)) l)) byte-lines
+      ∙ ap ended (take-before utf8 (s .pre) (s .bad) (s .post))
+      ∙ ended-utf8 (s .pre)
+
+  split : cs ≡ joinLF (s .pre ++ (s .bad ∷ s .post))
+  split = pieces-joined (cut-pieces isLF cs) .0 ∙ ap joinLF (s .whole)
+
+  no-LF : T (all noLF (s .pre ++ (s .bad ∷ s .post)))
+  no-LF = subst (λ l. T (all noLF l)) (s .whole) (pieces-joined (cut-pieces isLF cs) .2)
+
+  no-LF-bad : T (noLF (s .bad)) × T (all noLF (s .post))
+  no-LF-bad = and-yes (noLF (s .bad)) (all noLF (s .post)) (all-right noLF (s .pre) (s .bad ∷ s .post) no-LF)
+
+  no-LF-front : T (all noLF front)
+  unfolding front
+  no-LF-front = all-append noLF (s .pre) (s .bad ∷ []) (all-left noLF (s .pre) (s .bad ∷ s .post) no-LF) (yes-and (noLF (s .bad)) true (no-LF-bad .0) tt)
+
+  cs-is : cs ≡ joinLF front ++ behind (s .post)
+  unfolding front
+  cs-is = split ∙ join-front (s .pre) (s .bad) (s .post)
+
+  scalar-front : T (all isScalar (joinLF front))
+  scalar-front = all-left isScalar (joinLF front) (behind (s .post)) (subst (λ l. T (all isScalar l)) cs-is scalars)
+
+  whole-is : bytes ≡ throughLine place bytes ++ utf8 (behind (s .post))
+  whole-is =
+      encoded ∙ ap utf8 cs-is ∙ utf8-append (joinLF front) (behind (s .post)) ∙ ap (λ l. l ++ utf8 (behind (s .post))) (sym through-is)
+
+  parts-is : throughLine place bytes ≡ linesBefore place bytes ++ utf8 (s .bad)
+  unfolding front
+  parts-is =
+      through-is ∙ ap utf8 (join-last (s .pre) (s .bad)) ∙ utf8-append (ended (s .pre)) (s .bad)
+      ∙ ap (λ l. l ++ utf8 (s .bad)) (sym before-is)
+
+  through-short : length (throughLine place bytes) ≤ 65536
+  through-short = let e = ap length whole-is ∙ length-append (throughLine place bytes) (utf8 (behind (s .post))) in omega arith
+
+  before-short : length (linesBefore place bytes) ≤ 65536
+  before-short =
+      let e = ap length parts-is ∙ length-append (linesBefore place bytes) (utf8 (s .bad)) in
+      let t = through-short in
+      omega arith
+
+  refusal-is : readText (throughLine place bytes) ≡ refused n place
+  unfolding front
+  refusal-is =
+      ap readText through-is
+      ∙ read-lines front (some-last (s .pre) (s .bad)) no-LF-front scalar-front (subst (λ l. length l ≤ 65536) through-is through-short)
+      ∙ stopped s []
+
+  before-read : readText (linesBefore place bytes) ≡ accepted (s .state)
+  unfolding front
+  before-read =
+      let pre : List (List ℕ) = s .pre in
+      let e : joinLF (pre ++ ([] ∷ [])) ≡ ended pre = join-last pre [] ∙ append-nil (ended pre) in
+      let i : linesBefore place bytes ≡ utf8 (joinLF (pre ++ ([] ∷ []))) = before-is ∙ ap utf8 (sym e) in
+      let sc : T (all isScalar (ended pre)) = all-left isScalar (ended pre) (s .bad) (subst (λ l. T (all isScalar l)) (join-last pre (s .bad)) scalar-front) in
+      ap readText i
+      ∙ read-lines (pre ++ ([] ∷ [])) (some-last pre []) (all-append noLF pre ([] ∷ []) (all-left noLF pre (s .bad ∷ s .post) no-LF) tt)
+      (subst (λ l. T (all isScalar l)) (sym e) sc) (subst (λ l. length l ≤ 65536) i before-short)
+      ∙ blank-end s
+
+  after-none : (u : List ℕ) (r : Reading) → Fits (throughLine place bytes ++ (10 ∷ u)) r → ⊥
+  unfolding front
+  after-none u r f =
+      let texts : List (List ℕ) = f .texts in
+      let e : throughLine place bytes ++ (10 ∷ u) ≡ utf8 (joinLF texts) = f .encoded ∙ ap utf8 (f .split) in
+      let sc : T (all isScalar (joinLF texts)) = subst (λ l. T (all isScalar l)) (f .split) (f .scalars) in
+      let taken : map utf8 texts ≡ map utf8 front ++ cut isLF u =
+      ap (map utf8) (sym (cut-joined texts (f .some-line) (f .ended)))
+      ∙ sym (cut-utf8 isLF LF-ascii (joinLF texts))
+      ∙ ap (cut isLF) (sym e)
+      ∙ ap (λ l. cut isLF (l ++ (10 ∷ u))) (through-is ∙ sym (join-utf8 front))
+      ∙ cut-through (map utf8 front) u bytes-some bytes-no-LF in
+      let (rest, i) = same-front front texts (cut isLF u) (lines-scalar front scalar-front) (lines-scalar texts sc) taken in
+      let read : readText (utf8 (joinLF texts)) ≡ readLines 1 texts nothingRead =
+      read-lines texts (f .some-line) (f .ended) sc (subst (λ l. length l ≤ 65536) e (f .short)) in
+      let ok : readText (utf8 (joinLF texts)) ≡ accepted r = ap readText (sym e) ∙ fits-accepted (throughLine place bytes ++ (10 ∷ u)) r f in
+      let no : readLines 1 texts nothingRead ≡ refused n place =
+      ap (λ l. readLines 1 l nothingRead) (i ∙ append-assoc (s .pre) (s .bad ∷ []) rest) ∙ stopped s rest in
+      refused-accepted (sym no ∙ sym read ∙ ok)
+    where
+      bytes-some : T (not (empty (map utf8 front)))
+      bytes-some = go (s .pre)
+        where
+          go : (pre : List (List ℕ)) → T (not (empty (map utf8 (pre ++ (s .bad ∷ [])))))
+          go [] = tt
+          go (p ∷ pre) = tt
+
+      bytes-no-LF : T (all noLF (map utf8 front))
+      bytes-no-LF =
+          all-left noLF (map utf8 front) (map utf8 (s .post))
+          (subst (λ l. T (all noLF l)) (byte-lines ∙ ap (map utf8) (sym (append-assoc (s .pre) (s .bad ∷ []) (s .post))) ∙ map-append utf8 front (s .post)) (pieces-joined (cut-pieces isLF bytes) .2))
+
+  first-bad-line : FirstBad n place bytes
+  first-bad-line =
+      record {
+        from-one = (let e = place-is in omega arith);
+        there = (
+            let e = place-is in
+            let k : length (cut isLF bytes) ≡ length (s .pre) + suc (length (s .post)) = ap length byte-lines ∙ length-map (s .pre ++ (s .bad ∷ s .post)) utf8 ∙ length-append (s .pre) (s .bad ∷ s .post) in
+            omega arith
+            );
+        line = utf8 (s .bad);
+        one-line = and-yes (noLF (utf8 (s .bad))) (all noLF (map utf8 (s .post))) (all-right noLF (map utf8 (s .pre)) (utf8 (s .bad) ∷ map utf8 (s .post))
+            (subst (λ l. T (all noLF l)) (byte-lines ∙ map-append utf8 (s .pre) (s .bad ∷ s .post)) (pieces-joined (cut-pieces isLF bytes) .2))) .0;
+        through = parts-is;
+        rest = utf8 (behind (s .post));
+        whole = whole-is;
+        reading = s .state;
+        before = before-read;
+        after = after-none;
+        refusal = refusal-is;
+      }
+
+pub first-bad : (bytes : List ℕ) (n place : ℕ) → readText bytes ≡ refused n place → 4 ≤ n → FirstBad n place bytes
+unfolding readText readChars
+first-bad bytes n place h big = size-case (ltb 65536 (length bytes)) refl h
+  where
+    small : (k at : ℕ) → k ≤ 3 → refused k at ≡ refused n place → ⊥
+    small k at l e = let i : k ≡ n = cc in omega arith
+
+    text-case : length bytes ≤ 65536 → (o : Text) → decode bytes ≡ o → readChars o ≡ refused n place → FirstBad n place bytes
+    text-case short (broken at) e h = absurd (small 3 at (le-refl 3) h)
+    text-case short (chars cs) e h =
+        let (sc, w) = decode-sound bytes 0 0 cs e in
+        first-bad-line bytes cs n place short sc w (lines-stop (cut isLF cs) 1 nothingRead n place h)
+
+    size-case : (b : Bool) → ltb 65536 (length bytes) ≡ b → cond b (refused 2 0) (readChars (decode bytes)) ≡ refused n place → FirstBad n place bytes
+    size-case true e h = absurd (small 2 0 (lib.Dec.lit≤ tt) h)
+    size-case false e h = text-case (ltb-no (false→T _ e)) (decode bytes) refl h
+
+-- ---- a text has one first bad line at most
+
+ended-through : (p k : ℕ) (ls : List (List ℕ)) → suc p ≤ length ls → p ≤ k → (u : List ℕ) × (ended (take (suc k) ls) ≡ joinLF (take (suc p) ls) ++ (10 ∷ u))
+ended-through p k [] h i = absurd (not-suc-le-zero h)
+ended-through zero k (l ∷ ls) h i = (ended (take k ls), refl)
+ended-through (suc p) zero (l ∷ ls) h i = absurd (not-suc-le-zero i)
+ended-through (suc p) (suc k) (l ∷ []) h i = absurd (not-suc-le-zero (le-of-suc-le-suc h))
+ended-through (suc p) (suc k) (l ∷ m ∷ ls) h i =
+    let (u, e) = ended-through p k (m ∷ ls) (le-of-suc-le-suc h) (le-of-suc-le-suc i) in
+    (u, ap (λ x. l ++ (10 ∷ x)) e ∙ sym (append-assoc l (10 ∷ joinLF (m ∷ take p ls)) (10 ∷ u)))
+
+no-earlier : (bytes : List ℕ) (n m place later : ℕ) → FirstBad n place bytes → FirstBad m later bytes → place < later → ⊥
+unfolding throughLine linesBefore
+no-earlier bytes n m zero later f g h = not-suc-le-zero (f .from-one)
+no-earlier bytes n m (suc p) zero f g h = not-suc-le-zero h
+no-earlier bytes n m (suc p) (suc zero) f g h = not-suc-le-zero (le-of-suc-le-suc h)
+no-earlier bytes n m (suc p) (suc (suc k)) f g h =
+    let (u, e) = ended-through p k (cut isLF bytes) (f .there) (le-of-suc-le-suc (le-of-suc-le-suc h)) in
+    f .after u (g .reading) (accepted-fits (throughLine (suc p) bytes ++ (10 ∷ u)) (g .reading) (ap readText (sym e) ∙ g .before))
+
+pub first-bad-one : (bytes : List ℕ) (n m place other : ℕ) → FirstBad n place bytes → FirstBad m other bytes → (n ≡ m) × (place ≡ other)
+first-bad-one bytes n m place other f g = go (lt-or place other) (lt-or other place)
+  where
+    lt-or : (a b : ℕ) → Dec (a < b)
+    lt-or a b = decLt a b
+
+    go : Dec (place < other) → Dec (other < place) → (n ≡ m) × (place ≡ other)
+    go (yes h) d = absurd (no-earlier bytes n m place other f g h)
+    go (no h) (yes i) = absurd (no-earlier bytes m n other place g f i)
+    go (no h) (no i) =
+        let e : place ≡ other = omega arith in
+        let a : refused n place ≡ refused m other = sym (f .refusal) ∙ ap (λ p. readText (throughLine p bytes)) e ∙ g .refusal in
+        (cc, e)

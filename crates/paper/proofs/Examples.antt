@@ -1,0 +1,4 @@
+pub mod CharDef
+pub mod Further
+pub mod Unk
+pub mod Pack

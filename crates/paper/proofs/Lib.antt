@@ -1,0 +1,9 @@
+pub mod Lists
+pub mod Text
+pub mod CharDef
+pub mod Rows
+pub mod Pack
+pub mod Numbers
+pub mod Unk
+pub mod Tables
+pub mod Examples

@@ -1,0 +1,149 @@
+-- Facts on tests and on cuts of lists, over any test.
+-- Assumes nothing.
+use Prim.Native.Nat.{ℕ, zero, suc, _<_}
+use native.Mathlib.Nat.{not-suc-le-zero}
+use native.Mathlib.Omega.{arith}
+use native.Mathlib.Decide.{ℕ-discrete}
+use mathlib.Core.Path.{_≡_, refl, sym, ap, _∙_, subst}
+use mathlib.Core.Bool.{Bool, true, false, not, cond, _&&_}
+use mathlib.Core.List.{List, [], _∷_, _++_}
+use lib.Dec.{T, eqb, eqb→eq}
+use mir.Facts.{and-yes, yes-and, not-T}
+use Rattle.paper.specs.Lists.{empty, all, full, edge, push, cut, words, until, trimStart, trimEnd}
+
+pub T→true : (b : Bool) → T b → b ≡ true
+T→true true t = refl
+T→true false t = absurd t
+
+pub T→false : (b : Bool) → T (not b) → b ≡ false
+T→false true t = absurd t
+T→false false t = refl
+
+pub true→T : (b : Bool) → b ≡ true → T b
+true→T true e = tt
+true→T false e = subst T (sym e) tt
+
+-- a test that k fails holds of no character that equals k
+pub apart : (p : ℕ → Bool) (k : ℕ) → p k ≡ false → (c : ℕ) → T (p c) → T (not (eqb c k))
+apart p k e c t = not-T (eqb c k) (λ h. subst T (ap p (eqb→eq c k h) ∙ e) t)
+
+-- a test of all numbers below n
+abbrev pub below : (ℕ → Bool) → ℕ → Bool
+below p zero = true
+below p (suc n) = p n && below p n
+
+pub from-below : (p : ℕ → Bool) (n : ℕ) → T (below p n) → (c : ℕ) → c < n → T (p c)
+from-below p zero t c h = absurd (not-suc-le-zero h)
+from-below p (suc n) t c h =
+    let both = and-yes (p n) (below p n) t in
+    elim (ℕ-discrete c n) [
+      | yes e ↦ subst (λ k. T (p k)) (sym e) (both .0)
+      | no d ↦ from-below p n (both .1) c (omega arith)
+    ]
+
+module _ {A : Type 0} (p : A → Bool) where
+  pub all-append : (s t : List A) → T (all p s) → T (all p t) → T (all p (s ++ t))
+  all-append [] t a b = b
+  all-append (x ∷ s) t a b =
+      let h = and-yes (p x) (all p s) a in
+      yes-and (p x) (all p (s ++ t)) (h .0) (all-append s t (h .1) b)
+
+  pub full-all : (s : List A) → T (full p s) → T (all p s)
+  full-all [] a = absurd a
+  full-all (x ∷ s) a = a
+
+  pub all-imp : (q : A → Bool) → ((c : A) → T (p c) → T (q c)) → (s : List A) → T (all p s) → T (all q s)
+  all-imp q f [] a = tt
+  all-imp q f (x ∷ s) a =
+      let h = and-yes (p x) (all p s) a in
+      yes-and (q x) (all q s) (f x (h .0)) (all-imp q f s (h .1))
+
+  pub full-imp : (q : A → Bool) → ((c : A) → T (p c) → T (q c)) → (s : List A) → T (full p s) → T (full q s)
+  full-imp q f [] a = absurd a
+  full-imp q f (x ∷ s) a = all-imp q f (x ∷ s) a
+
+  abbrev pub un : A → Bool
+  un c = not (p c)
+
+  -- up to a comment
+  pub until-append : (s r : List A) → T (all un s) → T (edge p r) → until p (s ++ r) ≡ s
+  until-append [] [] a e = refl
+  until-append [] (x ∷ r) a e = rw (T→true (p x) e)
+  until-append (x ∷ s) r a e =
+      let h = and-yes (un x) (all un s) a in
+      rw (T→false (p x) (h .0), until-append s r (h .1) e)
+
+  -- what stands behind a run
+  pub trimStart-append : (s r : List A) → T (all p s) → T (edge un r) → trimStart p (s ++ r) ≡ r
+  trimStart-append [] [] a e = refl
+  trimStart-append [] (x ∷ r) a e = rw (T→false (p x) e)
+  trimStart-append (x ∷ s) r a e =
+      let h = and-yes (p x) (all p s) a in
+      rw (T→true (p x) (h .0)) (trimStart-append s r (h .1) e)
+
+  pub trimEnd-run : (s : List A) → T (all p s) → trimEnd p s ≡ []
+  trimEnd-run [] a = refl
+  trimEnd-run (x ∷ s) a =
+      let h = and-yes (p x) (all p s) a in
+      rw (T→true (p x) (h .0), trimEnd-run s (h .1))
+
+  -- what stands before a run
+  pub trimEnd-solid : (y w : List A) → T (full un y) → T (all p w) → trimEnd p (y ++ w) ≡ y
+  trimEnd-solid [] w a b = absurd a
+  trimEnd-solid (x ∷ []) w a b =
+      rw (T→false (p x) (and-yes (un x) true a .0), trimEnd-run w b)
+  trimEnd-solid (x ∷ z ∷ y) w a b =
+      let h = and-yes (un x) (all un (z ∷ y)) a in
+      rw (T→false (p x) (h .0)) (ap (λ l. x ∷ l) (trimEnd-solid (z ∷ y) w (h .1) b))
+
+  trimEnd-front : (x : A) (s t : List A) → trimEnd p s ≡ t → T (not (empty t)) → trimEnd p (x ∷ s) ≡ x ∷ t
+  trimEnd-front x s [] e n = absurd n
+  trimEnd-front x s (y ∷ t) e n = go (p x)
+    where
+      go : (b : Bool) → cond (b && empty (trimEnd p s)) [] (x ∷ trimEnd p s) ≡ x ∷ y ∷ t
+      go true = rw e
+      go false = rw e
+
+  append-some : (x y : List A) → T (not (empty y)) → T (not (empty (x ++ y)))
+  append-some [] y n = n
+  append-some (a ∷ x) y n = tt
+
+  full-some : (y : List A) → T (full un y) → T (not (empty y))
+  full-some [] n = n
+  full-some (a ∷ y) n = tt
+
+  pub trimEnd-append : (x y w : List A) → T (full un y) → T (all p w) → trimEnd p (x ++ (y ++ w)) ≡ x ++ y
+  trimEnd-append [] y w a b = trimEnd-solid y w a b
+  trimEnd-append (c ∷ x) y w a b =
+      trimEnd-front c (x ++ (y ++ w)) (x ++ y) (trimEnd-append x y w a b) (append-some x y (full-some y a))
+
+-- ---- words
+
+abbrev pub pushAll : {A : Type 0} → List A → List (List A) → List (List A)
+pushAll [] ls = ls
+pushAll (x ∷ s) ls = push x (pushAll s ls)
+
+module _ {A : Type 0} (p : A → Bool) where
+  pub cut-run : (f r : List A) → T (all (un p) f) → cut p (f ++ r) ≡ pushAll f (cut p r)
+  cut-run [] r a = refl
+  cut-run (x ∷ f) r a =
+      let h = and-yes (un p x) (all (un p) f) a in
+      rw (T→false (p x) (h .0), cut-run f r (h .1))
+
+  pub pushAll-first : (f : List A) (ls : List (List A)) → pushAll f ([] ∷ ls) ≡ f ∷ ls
+  pushAll-first [] ls = refl
+  pushAll-first (x ∷ f) ls = rw (pushAll-first f ls)
+
+  -- a word and what stands behind it
+  pub words-word : (f r : List A) → T (full (un p) f) → T (edge p r) → words p (f ++ r) ≡ f ∷ words p r
+  words-word [] r a e = absurd a
+  words-word (x ∷ f) [] a e = rw (cut-run (x ∷ f) [] a, pushAll-first (x ∷ f) [])
+  words-word (x ∷ f) (y ∷ r) a e =
+      rw (cut-run (x ∷ f) (y ∷ r) a, T→true (p y) e, pushAll-first (x ∷ f) (cut p r))
+
+  -- a run before a word does not count
+  pub words-run : (w r : List A) → T (all p w) → words p (w ++ r) ≡ words p r
+  words-run [] r a = refl
+  words-run (x ∷ w) r a =
+      let h = and-yes (p x) (all p w) a in
+      rw (T→true (p x) (h .0)) (words-run w r (h .1))

@@ -1,0 +1,6 @@
+pub mod Size
+pub mod Kept
+pub mod Rules
+pub mod Bits
+pub mod Trip
+pub mod Verdict

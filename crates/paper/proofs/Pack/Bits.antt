@@ -1,0 +1,241 @@
+-- Numbers and the bits that spell them, bits and the bytes that hold them: each way undoes the other.
+-- Assumes nothing.
+use Prim.Native.Nat.{ℕ, zero, suc, _+_, _*_, _/_, _%_, _^_, _<_, zero-le, suc-le-suc}
+use native.Mathlib.Nat.{pow-suc, one-le-pow, div-one, div-eq-of-lt, div-div-eq-div-mul, div-lt-iff-lt-mul}
+use native.Mathlib.Omega.{arith}
+use mathlib.Core.Path.{_≡_, refl, sym, ap, ap₂, _∙_, subst}
+use mathlib.Core.Bool.{Bool, true}
+use mathlib.Core.List.{List, [], _∷_, _++_, map, append-assoc}
+use lib.Dec.{T, ltb, eqb, eqb→eq}
+use lib.ListN.{length}
+use mir.Facts.{and-yes, yes-and, ltb-yes, yes-ltb}
+use Rattle.paper.specs.Lists.{all, joined}
+use Rattle.paper.specs.Pack.Fields.{Field, field, bits, fieldBits, byte, inBytes}
+use Rattle.paper.specs.Pack.Read.{unpackBits, Taken, short, taken, takeNumber, consTaken, afterByte, takeBytes, padded}
+use Rattle.paper.proofs.Lists.Facts.{all-append}
+use Rattle.paper.proofs.CharDef.Sound.{zero-one, all-left, all-right}
+
+abbrev pub isBit : ℕ → Bool
+isBit b = ltb b 2
+
+abbrev pub isByte : ℕ → Bool
+isByte b = ltb b 256
+
+-- the bits of fields
+abbrev pub spell : List Field → List ℕ
+spell fs = joined (map fieldBits fs)
+
+pub spell-append : (fs gs : List Field) → spell (fs ++ gs) ≡ spell fs ++ spell gs
+spell-append [] gs = refl
+spell-append (f ∷ fs) gs = ap (λ l. fieldBits f ++ l) (spell-append fs gs) ∙ sym (append-assoc (fieldBits f) (spell fs) (spell gs))
+
+mod-two : (q : ℕ) → q % 2 < 2
+mod-two q = omega arith
+
+bits-are : (w n : ℕ) → T (all isBit (bits w n))
+bits-are zero n = tt
+bits-are (suc w) n = yes-and (isBit (n / 2 ^ w % 2)) (all isBit (bits w n)) (yes-ltb (mod-two (n / 2 ^ w))) (bits-are w n)
+
+pub spell-bits : (fs : List Field) → T (all isBit (spell fs))
+spell-bits [] = tt
+spell-bits (f ∷ fs) = all-append isBit (fieldBits f) (spell fs) (bits-are (f .0) (f .1)) (spell-bits fs)
+
+pub unpack-bits : (p : List ℕ) → T (all isBit (unpackBits p))
+unpack-bits [] = tt
+unpack-bits (b ∷ p) = all-append isBit (bits 8 b) (unpackBits p) (bits-are 8 b) (unpack-bits p)
+
+-- ---- a number
+
+half : (n w : ℕ) → n / 2 ^ suc w ≡ n / 2 ^ w / 2
+half n w = ap (λ m. n / m) (pow-suc 2 w) ∙ sym (div-div-eq-div-mul n (2 ^ w) 2)
+
+halves : (q : ℕ) → q / 2 * 2 + q % 2 ≡ q
+halves q = omega arith
+
+take-bits : (w n : ℕ) (s : List ℕ) → takeNumber w (n / 2 ^ w) (bits w n ++ s) ≡ taken n s
+take-bits zero n s = ap (λ v. taken v s) (div-one n)
+take-bits (suc w) n s =
+    ap (λ v. takeNumber w v (bits w n ++ s)) (ap (λ q. q * 2 + n / 2 ^ w % 2) (half n w) ∙ halves (n / 2 ^ w)) ∙ take-bits w n s
+
+pub number-taken : (w n : ℕ) (s : List ℕ) → n < 2 ^ w → takeNumber w 0 (bits w n ++ s) ≡ taken n s
+number-taken w n s h = ap (λ v. takeNumber w v (bits w n ++ s)) (sym (div-eq-of-lt h)) ∙ take-bits w n s
+
+pub short-taken {ℓ} : {X : Type ℓ} {A : Type 0} {a : A} {s : List ℕ} → short ≡ taken a s → X
+short-taken e = zero-one (cc)
+
+low-half : (a b : ℕ) → b < 2 → (a * 2 + b) / 2 ≡ a
+low-half a b h = omega arith
+
+low-bit : (a b : ℕ) → b < 2 → (a * 2 + b) % 2 ≡ b
+low-bit a b h = omega arith
+
+pub record Number (w high v : ℕ) (s t : List ℕ) : Type 0 where
+  pub above : v / 2 ^ w ≡ high
+  pub whole : s ≡ bits w v ++ t
+  pub left : T (all isBit t)
+
+taken-bits : (w high : ℕ) (s : List ℕ) (v : ℕ) (t : List ℕ) → T (all isBit s) → takeNumber w high s ≡ taken v t → Number w high v s t
+taken-bits zero high s v t b h =
+    let ev : high ≡ v = cc in
+    let et : s ≡ t = cc in
+    record { above = div-one v ∙ sym ev; whole = et; left = subst (λ l. T (all isBit l)) et b }
+taken-bits (suc w) high [] v t b h = short-taken h
+taken-bits (suc w) high (x ∷ s) v t b h =
+    let g = and-yes (isBit x) (all isBit s) b in
+    let x2 : x < 2 = ltb-yes (g .0) in
+    let n = taken-bits w (high * 2 + x) s v t (g .1) h in
+    record {
+      above = half v w ∙ ap (λ q. q / 2) (n .above) ∙ low-half high x x2;
+      whole = ap₂ (λ y l. y ∷ l) (sym (ap (λ q. q % 2) (n .above) ∙ low-bit high x x2)) (n .whole);
+      left = n .left;
+    }
+
+pub taken-number : (w : ℕ) (s : List ℕ) (v : ℕ) (t : List ℕ) → T (all isBit s) → takeNumber w 0 s ≡ taken v t
+    → (v < 2 ^ w) × (s ≡ bits w v ++ t) × T (all isBit t)
+taken-number w s v t b h =
+    let n = taken-bits w 0 s v t b h in
+    let e : v / 2 ^ w ≡ 0 = n .above in
+    let z : v / 2 ^ w < 1 = omega arith in
+    let k : v < 1 * 2 ^ w = div-lt-iff-lt-mul {k = 2 ^ w} {x = v} {y = 1} (one-le-pow w 2 (suc-le-suc zero-le)) .0 z in
+    (omega arith, n .whole, n .left)
+
+-- ---- bytes one after another
+
+pub bytes-taken : (bs s : List ℕ) → T (all isByte bs) → takeBytes (length bs) (spell (map (field 8) bs) ++ s) ≡ taken bs s
+bytes-taken [] s b = refl
+bytes-taken (x ∷ bs) s b =
+    let g = and-yes (isByte x) (all isByte bs) b in
+    let more : List ℕ = spell (map (field 8) bs) ++ s in
+    ap (λ o. afterByte o (λ t. takeBytes (length bs) t)) (number-taken 8 x more (ltb-yes (g .0)))
+    ∙ ap (consTaken x) (bytes-taken bs s (g .1))
+
+pub record Bytes (n : ℕ) (bs s t : List ℕ) : Type 0 where
+  pub size : length bs ≡ n
+  pub whole : s ≡ spell (map (field 8) bs) ++ t
+  pub left : T (all isBit t)
+
+pub taken-bytes : (n : ℕ) (s bs t : List ℕ) → T (all isBit s) → takeBytes n s ≡ taken bs t → Bytes n bs s t
+taken-bytes zero s bs t b h =
+    let eb : [] ≡ bs = cc in
+    let et : s ≡ t = cc in
+    record { size = ap length (sym eb); whole = et ∙ ap (λ l. spell (map (field 8) l) ++ t) eb; left = subst (λ l. T (all isBit l)) et b }
+taken-bytes (suc n) s bs t b h = go (takeNumber 8 0 s) refl h (taken-bytes n)
+  where
+    go : (o : Taken ℕ) → takeNumber 8 0 s ≡ o → afterByte o (λ t. takeBytes n t) ≡ taken bs t
+        → ((s bs t : List ℕ) → T (all isBit s) → takeBytes n s ≡ taken bs t → Bytes n bs s t)
+        → Bytes (suc n) bs s t
+    go short e h ih = short-taken h
+    go (taken x u) e h ih = rest (takeBytes n u) refl h
+      where
+        one : (x < 2 ^ 8) × (s ≡ bits 8 x ++ u) × T (all isBit u)
+        one = taken-number 8 s x u b e
+
+        rest : (o : Taken (List ℕ)) → takeBytes n u ≡ o → consTaken x o ≡ taken bs t → Bytes (suc n) bs s t
+        rest short d h = short-taken h
+        rest (taken cs v) d h =
+            let eb : x ∷ cs ≡ bs = cc in
+            let et : v ≡ t = cc in
+            let m = ih u cs v (one .2) d in
+            record {
+              size = ap length (sym eb) ∙ ap suc (m .size);
+              whole = one .1 ∙ ap (λ l. bits 8 x ++ l) (m .whole) ∙ ap₂ (λ l k. spell (map (field 8) l) ++ k) eb et;
+              left = subst (λ l. T (all isBit l)) et (m .left);
+            }
+
+-- ---- bytes that hold bits
+
+-- the number that the bits of a byte spell
+abbrev horner : ℕ → ℕ → ℕ → ℕ → ℕ → ℕ → ℕ → ℕ → ℕ
+horner a b c d e f g h = (((((((0 * 2 + a) * 2 + b) * 2 + c) * 2 + d) * 2 + e) * 2 + f) * 2 + g) * 2 + h
+
+byte-horner : (a b c d e f g h : ℕ) → byte a b c d e f g h ≡ horner a b c d e f g h
+byte-horner a b c d e f g h = omega arith
+
+byte-unpack : (a b c d e f g h : ℕ) → T (all isBit (a ∷ b ∷ c ∷ d ∷ e ∷ f ∷ g ∷ h ∷ []))
+    → bits 8 (byte a b c d e f g h) ≡ a ∷ b ∷ c ∷ d ∷ e ∷ f ∷ g ∷ h ∷ []
+byte-unpack a b c d e f g h t =
+    let l : List ℕ = a ∷ b ∷ c ∷ d ∷ e ∷ f ∷ g ∷ h ∷ [] in
+    ap (bits 8) (byte-horner a b c d e f g h) ∙ sym (taken-number 8 l (horner a b c d e f g h) [] t refl .1)
+
+byte-small : (a b c d e f g h : ℕ) → T (all isBit (a ∷ b ∷ c ∷ d ∷ e ∷ f ∷ g ∷ h ∷ [])) → T (isByte (byte a b c d e f g h))
+byte-small a b c d e f g h t =
+    let l : List ℕ = a ∷ b ∷ c ∷ d ∷ e ∷ f ∷ g ∷ h ∷ [] in
+    subst (λ n. T (isByte n)) (sym (byte-horner a b c d e f g h)) (yes-ltb (taken-number 8 l (horner a b c d e f g h) [] t refl .0))
+
+byte-of : (b : ℕ) → b < 256 → byte (b / 128 % 2) (b / 64 % 2) (b / 32 % 2) (b / 16 % 2) (b / 8 % 2) (b / 4 % 2) (b / 2 % 2) (b / 1 % 2) ≡ b
+byte-of b h =
+    let v : ℕ = horner (b / 128 % 2) (b / 64 % 2) (b / 32 % 2) (b / 16 % 2) (b / 8 % 2) (b / 4 % 2) (b / 2 % 2) (b / 1 % 2) in
+    byte-horner (b / 128 % 2) (b / 64 % 2) (b / 32 % 2) (b / 16 % 2) (b / 8 % 2) (b / 4 % 2) (b / 2 % 2) (b / 1 % 2)
+    ∙ same-number v b (number-taken 8 b [] h)
+  where
+    same-number : (v b : ℕ) → taken v [] ≡ taken b [] → v ≡ b
+    same-number v b e = cc
+
+pub inBytes-unpack : (p : List ℕ) → T (all isByte p) → inBytes (unpackBits p) ≡ p
+unfolding inBytes
+inBytes-unpack [] t = refl
+inBytes-unpack (b ∷ p) t =
+    let g = and-yes (isByte b) (all isByte p) t in
+    ap₂ (λ x l. x ∷ l) (byte-of b (ltb-yes (g .0))) (inBytes-unpack p (g .1))
+
+-- zero bits
+abbrev zeros : ℕ → List ℕ
+zeros zero = []
+zeros (suc n) = 0 ∷ zeros n
+
+zeros-are : (s : List ℕ) → T (all (eqb 0) s) → s ≡ zeros (length s)
+zeros-are [] t = refl
+zeros-are (x ∷ s) t =
+    let g = and-yes (eqb 0 x) (all (eqb 0) s) t in
+    ap₂ (λ y l. y ∷ l) (sym (eqb→eq 0 x (g .0))) (zeros-are s (g .1))
+
+pub unpack-inBytes : (l : List ℕ) → T (all isBit l) → (pad : List ℕ) × (unpackBits (inBytes l) ≡ l ++ pad) × T (padded pad)
+unfolding inBytes
+unpack-inBytes [] t = ([], refl, tt)
+unpack-inBytes (a ∷ []) t = (zeros 7, byte-unpack a 0 0 0 0 0 0 0 t, tt)
+unpack-inBytes (a ∷ b ∷ []) t = (zeros 6, byte-unpack a b 0 0 0 0 0 0 t, tt)
+unpack-inBytes (a ∷ b ∷ c ∷ []) t = (zeros 5, byte-unpack a b c 0 0 0 0 0 t, tt)
+unpack-inBytes (a ∷ b ∷ c ∷ d ∷ []) t = (zeros 4, byte-unpack a b c d 0 0 0 0 t, tt)
+unpack-inBytes (a ∷ b ∷ c ∷ d ∷ e ∷ []) t = (zeros 3, byte-unpack a b c d e 0 0 0 t, tt)
+unpack-inBytes (a ∷ b ∷ c ∷ d ∷ e ∷ f ∷ []) t = (zeros 2, byte-unpack a b c d e f 0 0 t, tt)
+unpack-inBytes (a ∷ b ∷ c ∷ d ∷ e ∷ f ∷ g ∷ []) t = (zeros 1, byte-unpack a b c d e f g 0 t, tt)
+unpack-inBytes (a ∷ b ∷ c ∷ d ∷ e ∷ f ∷ g ∷ h ∷ s) t =
+    let first : List ℕ = a ∷ b ∷ c ∷ d ∷ e ∷ f ∷ g ∷ h ∷ [] in
+    let (pad, w, z) = unpack-inBytes s (all-right isBit first s t) in
+    (pad, ap₂ (λ x y. x ++ y) (byte-unpack a b c d e f g h (all-left isBit first s t)) w, z)
+
+-- they are bytes
+pub inBytes-bytes : (l : List ℕ) → T (all isBit l) → T (all isByte (inBytes l))
+unfolding inBytes
+inBytes-bytes [] t = tt
+inBytes-bytes (a ∷ []) t = yes-and (isByte (byte a 0 0 0 0 0 0 0)) true (byte-small a 0 0 0 0 0 0 0 t) tt
+inBytes-bytes (a ∷ b ∷ []) t = yes-and (isByte (byte a b 0 0 0 0 0 0)) true (byte-small a b 0 0 0 0 0 0 t) tt
+inBytes-bytes (a ∷ b ∷ c ∷ []) t = yes-and (isByte (byte a b c 0 0 0 0 0)) true (byte-small a b c 0 0 0 0 0 t) tt
+inBytes-bytes (a ∷ b ∷ c ∷ d ∷ []) t = yes-and (isByte (byte a b c d 0 0 0 0)) true (byte-small a b c d 0 0 0 0 t) tt
+inBytes-bytes (a ∷ b ∷ c ∷ d ∷ e ∷ []) t = yes-and (isByte (byte a b c d e 0 0 0)) true (byte-small a b c d e 0 0 0 t) tt
+inBytes-bytes (a ∷ b ∷ c ∷ d ∷ e ∷ f ∷ []) t = yes-and (isByte (byte a b c d e f 0 0)) true (byte-small a b c d e f 0 0 t) tt
+inBytes-bytes (a ∷ b ∷ c ∷ d ∷ e ∷ f ∷ g ∷ []) t = yes-and (isByte (byte a b c d e f g 0)) true (byte-small a b c d e f g 0 t) tt
+inBytes-bytes (a ∷ b ∷ c ∷ d ∷ e ∷ f ∷ g ∷ h ∷ s) t =
+    let first : List ℕ = a ∷ b ∷ c ∷ d ∷ e ∷ f ∷ g ∷ h ∷ [] in
+    yes-and (isByte (byte a b c d e f g h)) (all isByte (inBytes s)) (byte-small a b c d e f g h (all-left isBit first s t)) (inBytes-bytes s (all-right isBit first s t))
+
+pad-is : (n : ℕ) (pad : List ℕ) → T (padded pad) → (length pad < 8 → length pad ≡ n) → pad ≡ zeros n
+pad-is n pad t f =
+    let g = and-yes (ltb (length pad) 8) (all (eqb 0) pad) t in
+    zeros-are pad (g .1) ∙ ap zeros (f (ltb-yes (g .0)))
+
+pub inBytes-pad : (l pad : List ℕ) → T (padded pad) → length (l ++ pad) % 8 ≡ 0 → inBytes (l ++ pad) ≡ inBytes l
+unfolding inBytes
+inBytes-pad [] pad t h = ap inBytes (pad-is 0 pad t (λ k. omega arith))
+inBytes-pad (a ∷ []) pad t h = ap (λ l. inBytes (a ∷ l)) (pad-is 7 pad t (λ k. omega arith))
+inBytes-pad (a ∷ b ∷ []) pad t h = ap (λ l. inBytes (a ∷ b ∷ l)) (pad-is 6 pad t (λ k. omega arith))
+inBytes-pad (a ∷ b ∷ c ∷ []) pad t h = ap (λ l. inBytes (a ∷ b ∷ c ∷ l)) (pad-is 5 pad t (λ k. omega arith))
+inBytes-pad (a ∷ b ∷ c ∷ d ∷ []) pad t h = ap (λ l. inBytes (a ∷ b ∷ c ∷ d ∷ l)) (pad-is 4 pad t (λ k. omega arith))
+inBytes-pad (a ∷ b ∷ c ∷ d ∷ e ∷ []) pad t h = ap (λ l. inBytes (a ∷ b ∷ c ∷ d ∷ e ∷ l)) (pad-is 3 pad t (λ k. omega arith))
+inBytes-pad (a ∷ b ∷ c ∷ d ∷ e ∷ f ∷ []) pad t h = ap (λ l. inBytes (a ∷ b ∷ c ∷ d ∷ e ∷ f ∷ l)) (pad-is 2 pad t (λ k. omega arith))
+inBytes-pad (a ∷ b ∷ c ∷ d ∷ e ∷ f ∷ g ∷ []) pad t h = ap (λ l. inBytes (a ∷ b ∷ c ∷ d ∷ e ∷ f ∷ g ∷ l)) (pad-is 1 pad t (λ k. omega arith))
+inBytes-pad (a ∷ b ∷ c ∷ d ∷ e ∷ f ∷ g ∷ i ∷ s) pad t h = ap (λ l. byte a b c d e f g i ∷ l) (inBytes-pad s pad t (omega arith))
+
+pub unpack-length : (p : List ℕ) → length (unpackBits p) % 8 ≡ 0
+unpack-length [] = refl
+unpack-length (b ∷ p) = let h = unpack-length p in omega arith

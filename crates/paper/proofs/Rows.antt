@@ -1,0 +1,3 @@
+pub mod Rising
+pub mod Cover
+pub mod Sizes

@@ -1,0 +1,4 @@
+pub mod Laws
+pub mod Trip
+pub mod Room
+pub mod Append

@@ -1,0 +1,64 @@
+-- What a reader leaves in lent room: the layout, and zero bytes up to the sizes. Assumes nothing.
+use Prim.Native.Nat.{ℕ, _-_, _≤_}
+use native.Mathlib.Omega.{arith}
+use mathlib.Core.Path.{_≡_, refl, ap, _∙_}
+use mathlib.Core.List.{List, _++_, map}
+use mathlib.Core.Option.{some}
+use lib.ListN.{length, replicate, length-map}
+use Rattle.paper.specs.CharDef.Reading.{Reading, Within, nameBytes, references}
+use Rattle.paper.specs.Tables.Layout.{le, padded, Tables, layout, behind, places, rows, placeBytes, definitionBytes, rowBytes, numbersOf, countsOf, PackRules, handedIn, inRoom}
+use Rattle.paper.proofs.Tables.Laws.{table-length}
+use Rattle.paper.proofs.Tables.Trip.{tables-is, handed-in, joined-length, places-length, rows-length, numbers-length, wide-place, wide-definition, wide-row, wide-number}
+
+-- the zero bytes behind l: shut, so that nothing counts them out
+zeros : ℕ → List ℕ → List ℕ
+zeros n l = replicate (n - length l) 0
+
+padded-is : (n : ℕ) (l : List ℕ) → padded n l ≡ l ++ zeros n l
+unfolding padded zeros
+padded-is n l = refl
+
+zerosBehind : Tables → Tables
+zerosBehind t =
+    record {
+      names = zeros 16384 (t .names);
+      categories = zeros 2048 (t .categories);
+      definitions = zeros 3072 (t .definitions);
+      ranges = zeros 16384 (t .ranges);
+      references = zeros 16384 (t .references);
+    }
+
+room-is : (t : Tables) → inRoom t ≡ behind t (zerosBehind t)
+unfolding inRoom behind zerosBehind
+room-is t =
+    tables-is (behind t (zerosBehind t)) _ _ _ _ _ (padded-is 16384 (t .names)) (padded-is 2048 (t .categories))
+    (padded-is 3072 (t .definitions)) (padded-is 16384 (t .ranges)) (padded-is 16384 (t .references))
+
+pub handed-room : (r : Reading) → PackRules r → handedIn (inRoom (layout r)) (countsOf r) ≡ some r
+handed-room r ok = ap (λ t. handedIn t (countsOf r)) (room-is (layout r)) ∙ handed-in r (zerosBehind (layout r)) ok
+
+-- the layout fits
+pub record Roomy (t : Tables) : Type 0 where
+  pub names : length (t .names) ≤ 16384
+  pub categories : length (t .categories) ≤ 2048
+  pub definitions : length (t .definitions) ≤ 3072
+  pub ranges : length (t .ranges) ≤ 16384
+  pub references : length (t .references) ≤ 16384
+
+pub layout-fits : (r : Reading) → Within r → Roomy (layout r)
+unfolding layout nameBytes
+layout-fits r w =
+    let a = joined-length (r .names) in
+    let a′ = w .names-fit in
+    let b = table-length 4 placeBytes wide-place (places 0 (map length (r .names))) in
+    let b′ : length (places 0 (map length (r .names))) ≡ length (r .names) = places-length 0 (map length (r .names)) ∙ length-map (r .names) length in
+    let b″ = w .categories-fit in
+    let c = table-length 6 definitionBytes wide-definition (r .definitions) in
+    let c′ = w .definitions-fit in
+    let d = table-length 8 rowBytes wide-row (rows 0 (r .ranges)) in
+    let d′ = rows-length 0 (r .ranges) in
+    let d″ = w .ranges-fit in
+    let e = table-length 2 (le 2) wide-number (numbersOf (r .ranges)) in
+    let e′ = numbers-length (r .ranges) in
+    let e″ = w .references-fit in
+    record { names = omega arith; categories = omega arith; definitions = omega arith; ranges = omega arith; references = omega arith }

@@ -1,0 +1,671 @@
+-- A reading's tables, handed in, are that reading; and tables that are handed in are their reading's. Assumes nothing.
+use Prim.Native.Nat.{ℕ, zero, suc, _+_, _*_, _≤_, _<_}
+use native.Mathlib.Omega.{arith}
+use mathlib.Core.Path.{_≡_, refl, sym, ap, ap₂, _∙_, subst}
+use mathlib.Core.Bool.{Bool, true, false, not, cond, _&&_}
+use mathlib.Core.List.{List, [], _∷_, _++_, map, append-assoc, append-nil}
+use mathlib.Core.Option.{none, some}
+use lib.Dec.{T, leb, ltb, eqb}
+use lib.ListN.{length, take, drop, getD, length-append, length-drop, length-map}
+use lib.Seq.{take-append-seam, drop-append-seam, take-add, length-take-le, drop-length}
+use mir.Facts.{and-yes, yes-and, leb-yes, yes-leb, ltb-yes, yes-ltb, eqb-yes, yes-eqb}
+use borrow.Author.Tests.{le-leb}
+use Rattle.paper.specs.Lists.{all, empty, joined, sum}
+use Rattle.paper.specs.CharDef.Reading.{Definition, Range, Reading, Within, nameBytes, references}
+use Rattle.paper.specs.Pack.Fields.{flag}
+use Rattle.paper.specs.declared.Counts.{Counts}
+use Rattle.paper.specs.Tables.Layout.{le, value, num, pieces, Place, Row, placeBytes, definitionBytes, rowBytes, placeOf, definitionOf, rowOf, places, rows, split, ranging, Tables, countsOf, numbersOf, layout, used, behind, bound, sound, newAfter, PackRules, enough, placesStand, rowsStand, flagged, placesIn, namesIn, rowsIn, numbersIn, decoded, holds, handedIn}
+use Rattle.paper.proofs.Lists.Facts.{T→true, true→T}
+use Rattle.paper.proofs.Tables.Laws.{isByte, whole, field-back, pieces-table, table-length, pieces-length, joined-pieces, pieces-whole, all-take, all-drop, short, value-small, map-back, value-le}
+
+-- the tests with their numbers written out
+is-lt : (a b : ℕ) → a < b → T (ltb a b)
+is-lt a b h = yes-ltb h
+
+is-le : (a b : ℕ) → a ≤ b → T (leb a b)
+is-le a b h = yes-leb h
+
+is-eq : (a b : ℕ) → a ≡ b → T (eqb a b)
+is-eq a b h = yes-eqb h
+
+both : {a b : Bool} → a ≡ true → b ≡ true → (a && b) ≡ true
+both s t = rw (s, t)
+
+-- ---- one law for every table
+
+module _ {A : Type 0} (w : ℕ) (f : A → List ℕ) (g : List ℕ → A) where
+  there : ((x : A) → length (f x) ≡ w) → (ok : A → Bool) → ((x : A) → T (ok x) → g (f x) ≡ x)
+      → (xs : List A) (n : ℕ) (rest : List ℕ) → length xs ≡ n → T (all ok xs) → map g (pieces w n (joined (map f xs) ++ rest)) ≡ xs
+  there wide ok back xs n rest e t =
+      ap (λ m. map g (pieces w m (joined (map f xs) ++ rest))) (sym e) ∙ ap (map g) (pieces-table w f wide xs rest) ∙ map-back ok f g back xs t
+
+  again : (ok : List ℕ → Bool) → ((p : List ℕ) → T (ok p) → f (g p) ≡ p)
+      → (n : ℕ) (l : List ℕ) → T (all ok (pieces w n l)) → joined (map f (map g (pieces w n l))) ≡ take (w * n) l
+  again ok back n l t = ap joined (map-back ok g f back (pieces w n l) t) ∙ joined-pieces w n l
+
+-- ---- entries
+
+small : ℕ → Bool
+small n = ltb n 65536
+
+two : (n : ℕ) → T (small n) → num 2 0 (le 2 n) ≡ n
+unfolding num small
+two n t = let h : n < 65536 = ltb-yes t in omega arith
+
+smallPlace : Place → Bool
+smallPlace p = small (p .start) && small (p .len)
+
+place-there : (p : Place) → T (smallPlace p) → placeOf (placeBytes p) ≡ p
+unfolding num small smallPlace
+place-there p t =
+    let h = and-yes (ltb (p .start) 65536) (ltb (p .len) 65536) t in
+    ap₂ (λ a b. record { start = a; len = b }) (two (p .start) (h .0)) (two (p .len) (h .1))
+
+smallDefinition : Definition → Bool
+smallDefinition d = ltb (d .len) 4294967296
+
+flag-there : (b : Bool) → eqb (flag b) 1 ≡ b
+flag-there true = refl
+flag-there false = refl
+
+four : (n : ℕ) → n < 4294967296 → num 4 0 (le 4 n) ≡ n
+unfolding num
+four n h = value-le 4 n h
+
+definition-there : (d : Definition) → T (smallDefinition d) → definitionOf (definitionBytes d) ≡ d
+unfolding num smallDefinition
+definition-there d t =
+    let a : value (le 4 (d .len)) ≡ d .len = value-le 4 (d .len) (ltb-yes t) in
+    rw (flag-there (d .invoke), flag-there (d .group)) (ap (λ n. record { invoke = d .invoke; group = d .group; len = n }) a)
+
+smallRow : Row → Bool
+smallRow r = small (r .lower) && (small (r .upper) && (small (r .first) && small (r .count)))
+
+row-is : (r : Row) (a b c d : ℕ) → a ≡ r .lower → b ≡ r .upper → c ≡ r .first → d ≡ r .count
+    → _≡_ {A = Row} (record { lower = a; upper = b; first = c; count = d }) r
+row-is r a b c d e f g h = rw (e, f, g, h)
+
+row-there : (r : Row) → T (smallRow r) → rowOf (rowBytes r) ≡ r
+unfolding num small smallRow
+row-there r t =
+    let h = and-yes (small (r .lower)) _ t in
+    let i = and-yes (small (r .upper)) _ (h .1) in
+    let j = and-yes (small (r .first)) (small (r .count)) (i .1) in
+    row-is r _ _ _ _ (two (r .lower) (h .0)) (two (r .upper) (i .0)) (two (r .first) (j .0)) (two (r .count) (j .1))
+
+-- the last field of an entry
+last-back : (v k : ℕ) (p : List ℕ) → T (all isByte p) → length p ≡ k + v → le v (num v k p) ≡ drop k p
+last-back v k p t e =
+    sym (append-nil (le v (num v k p))) ∙ ap (λ l. le v (num v k p) ++ l) (sym (ap (λ m. drop m p) (sym e) ∙ drop-length p)) ∙ field-back v k p t (omega arith)
+
+place-back : (p : List ℕ) → T (whole 4 p) → placeBytes (placeOf p) ≡ p
+place-back p t =
+    let h = and-yes (eqb (length p) 4) (all isByte p) t in
+    let e : length p ≡ 4 = eqb-yes (h .0) in
+    ap (λ l. le 2 (num 2 0 p) ++ l) (last-back 2 2 p (h .1) e) ∙ field-back 2 0 p (h .1) (omega arith)
+
+row-back : (p : List ℕ) → T (whole 8 p) → rowBytes (rowOf p) ≡ p
+row-back p t =
+    let h = and-yes (eqb (length p) 8) (all isByte p) t in
+    let e : length p ≡ 8 = eqb-yes (h .0) in
+    ap (λ l. le 2 (num 2 0 p) ++ l)
+      (ap (λ l. le 2 (num 2 2 p) ++ l)
+        (ap (λ l. le 2 (num 2 4 p) ++ l) (last-back 2 6 p (h .1) e) ∙ field-back 2 4 p (h .1) (omega arith))
+        ∙ field-back 2 2 p (h .1) (omega arith))
+    ∙ field-back 2 0 p (h .1) (omega arith)
+
+number-back : (p : List ℕ) → T (whole 2 p) → le 2 (num 2 0 p) ≡ p
+number-back p t =
+    let h = and-yes (eqb (length p) 2) (all isByte p) t in
+    let e : length p ≡ 2 = eqb-yes (h .0) in
+    last-back 2 0 p (h .1) e
+
+flag-back : (n : ℕ) → n ≤ 1 → flag (eqb n 1) ≡ n
+flag-back zero h = refl
+flag-back (suc zero) h = refl
+flag-back (suc (suc n)) h = absurd (omega arith)
+
+definition-back : (p : List ℕ) → T (whole 6 p && flagged p) → definitionBytes (definitionOf p) ≡ p
+unfolding flagged
+definition-back p t = go p (eqb-yes (h .0)) (leb-yes (k .0)) (leb-yes (k .1)) (field-back 4 0 p (h .1) (let e : length p ≡ 6 = eqb-yes (h .0) in omega arith))
+  where
+    g : T (whole 6 p) × T (flagged p)
+    g = and-yes (whole 6 p) (flagged p) t
+
+    h : T (eqb (length p) 6) × T (all isByte p)
+    h = and-yes (eqb (length p) 6) (all isByte p) (g .0)
+
+    k : T (leb (getD p 4 0) 1) × T (leb (getD p 5 0) 1)
+    k = and-yes (leb (getD p 4 0) 1) (leb (getD p 5 0) 1) (g .1)
+
+    go : (p : List ℕ) → length p ≡ 6 → getD p 4 0 ≤ 1 → getD p 5 0 ≤ 1 → le 4 (num 4 0 p) ++ drop 4 p ≡ p
+        → le 4 (num 4 0 p) ++ (flag (eqb (getD p 4 0) 1) ∷ flag (eqb (getD p 5 0) 1) ∷ []) ≡ p
+    go (a ∷ b ∷ c ∷ d ∷ e ∷ f ∷ []) z x y q = rw (flag-back e x, flag-back f y) q
+    go (a ∷ b ∷ c ∷ d ∷ e ∷ f ∷ g ∷ s) z x y q = absurd (omega arith)
+    go [] z x y q = absurd (omega arith)
+    go (a ∷ []) z x y q = absurd (omega arith)
+    go (a ∷ b ∷ []) z x y q = absurd (omega arith)
+    go (a ∷ b ∷ c ∷ []) z x y q = absurd (omega arith)
+    go (a ∷ b ∷ c ∷ d ∷ []) z x y q = absurd (omega arith)
+    go (a ∷ b ∷ c ∷ d ∷ e ∷ []) z x y q = absurd (omega arith)
+
+-- ---- one behind another
+
+split-joined : (xs : List (List ℕ)) (rest : List ℕ) → split (map length xs) (joined xs ++ rest) ≡ xs
+unfolding split
+split-joined [] rest = refl
+split-joined (x ∷ xs) rest =
+    rw (append-assoc x (joined xs) rest, take-append-seam x (joined xs ++ rest), drop-append-seam x (joined xs ++ rest), split-joined xs rest)
+
+joined-split : (ns l : List ℕ) → joined (split ns l) ≡ take (sum ns) l
+unfolding split
+joined-split [] l = refl
+joined-split (n ∷ ns) l = ap (λ m. take n l ++ m) (joined-split ns (drop n l)) ∙ sym (take-add n (sum ns) l)
+
+split-lengths : (ns l : List ℕ) → sum ns ≤ length l → map length (split ns l) ≡ ns
+unfolding split
+split-lengths [] l h = refl
+split-lengths (n ∷ ns) l h =
+    ap₂ (λ a b. a ∷ b) (length-take-le n l (omega arith)) (split-lengths ns (drop n l) (simp length-drop (omega arith)))
+
+places-lens : (at : ℕ) (ns : List ℕ) → map (λ p. p .len) (places at ns) ≡ ns
+unfolding places
+places-lens at [] = refl
+places-lens at (n ∷ ns) = ap (λ l. n ∷ l) (places-lens (at + n) ns)
+
+pub places-length : (at : ℕ) (ns : List ℕ) → length (places at ns) ≡ length ns
+unfolding places
+places-length at [] = refl
+places-length at (n ∷ ns) = ap suc (places-length (at + n) ns)
+
+places-small : (at : ℕ) (ns : List ℕ) → at + sum ns < 65536 → T (all smallPlace (places at ns))
+unfolding places small smallPlace
+places-small at [] h = tt
+places-small at (n ∷ ns) h =
+    yes-and (ltb at 65536 && ltb n 65536) _ (yes-and (ltb at 65536) (ltb n 65536) (is-lt at 65536 (omega arith)) (is-lt n 65536 (omega arith)))
+    (places-small (at + n) ns (omega arith))
+
+places-stand : (total at : ℕ) (xs : List (List ℕ)) → T (all (λ x. not (empty x)) xs) → at + sum (map length xs) ≡ total
+    → T (placesStand total at (places at (map length xs)))
+unfolding placesStand places
+places-stand total at [] t e = is-eq at total (omega arith)
+places-stand total at (x ∷ xs) t e =
+    let h = and-yes (not (empty x)) (all (λ y. not (empty y)) xs) t in
+    yes-and (eqb at at) _ (is-eq at at refl)
+    (yes-and (ltb 0 (length x)) _ (yes-ltb (filled x (h .0)))
+    (yes-and (leb (at + length x) total) _ (is-le (at + length x) total (omega arith)) (places-stand total (at + length x) xs (h .1) (omega arith))))
+  where
+    filled : (x : List ℕ) → T (not (empty x)) → 0 < length x
+    filled [] t = absurd t
+    filled (a ∷ x) t = omega arith
+
+record Standing (total at : ℕ) (ps : List Place) : Type 0 where
+  again-places : places at (map (λ p. p .len) ps) ≡ ps
+  adds-up : at + sum (map (λ p. p .len) ps) ≡ total
+  none-empty : T (all (λ n. ltb 0 n) (map (λ p. p .len) ps))
+
+standing : (total at : ℕ) (ps : List Place) → T (placesStand total at ps) → Standing total at ps
+unfolding placesStand places
+standing total at [] t = let e : at ≡ total = eqb-yes t in record { again-places = refl; adds-up = omega arith; none-empty = tt }
+standing total at (p ∷ ps) t =
+    let h = and-yes (eqb (p .start) at) _ t in
+    let i = and-yes (ltb 0 (p .len)) _ (h .1) in
+    let j = and-yes (leb (at + p .len) total) (placesStand total (at + p .len) ps) (i .1) in
+    let s = standing total (at + p .len) ps (j .1) in
+    let e : p .start ≡ at = eqb-yes (h .0) in
+    record {
+      again-places = ap₂ (λ (a : Place) (l : List Place). a ∷ l) (ap (λ (a : ℕ). record { start = a; len = p .len }) (sym e)) (s .again-places);
+      adds-up = let k = s .adds-up in omega arith;
+      none-empty = yes-and (ltb 0 (p .len)) _ (i .0) (s .none-empty)
+    }
+
+-- ---- ranges
+
+pub rows-length : (at : ℕ) (gs : List Range) → length (rows at gs) ≡ length gs
+unfolding rows
+rows-length at [] = refl
+rows-length at (g ∷ gs) = ap suc (rows-length (at + length (g .categories)) gs)
+
+bounded : Range → Bool
+bounded g = bound (g .lower) && bound (g .upper)
+
+bound-small : (a : ℕ) → T (bound a) → T (small a)
+unfolding bound small
+bound-small a t = let h : a ≤ 0xFFFF = leb-yes (and-yes (leb a 0xFFFF) _ t .0) in is-lt a 65536 (omega arith)
+
+less : (n : ℕ) → n < 65536 → T (small n)
+unfolding small
+less n h = yes-ltb h
+
+rows-small : (at : ℕ) (gs : List Range) → T (all bounded gs) → at + references gs < 65536 → T (all smallRow (rows at gs))
+unfolding rows smallRow bounded references
+rows-small at [] t h = tt
+rows-small at (g ∷ gs) t h =
+    let i = and-yes (bounded g) (all bounded gs) t in
+    let j = and-yes (bound (g .lower)) (bound (g .upper)) (i .0) in
+    yes-and (smallRow (record { lower = g .lower; upper = g .upper; first = at; count = length (g .categories) })) _
+    (yes-and (small (g .lower)) _ (bound-small (g .lower) (j .0))
+    (yes-and (small (g .upper)) _ (bound-small (g .upper) (j .1))
+    (yes-and (small at) (small (length (g .categories))) (less at (omega arith)) (less (length (g .categories)) (omega arith)))))
+    (rows-small (at + length (g .categories)) gs (i .1) (omega arith))
+
+rows-stand : (total at : ℕ) (gs : List Range) → T (all bounded gs) → at + references gs ≡ total → T (rowsStand total at (rows at gs))
+unfolding rowsStand rows bounded references
+rows-stand total at [] t e = is-eq at total (omega arith)
+rows-stand total at (g ∷ gs) t e =
+    let i = and-yes (bounded g) (all bounded gs) t in
+    let j = and-yes (bound (g .lower)) (bound (g .upper)) (i .0) in
+    yes-and (eqb at at) _ (is-eq at at refl)
+    (yes-and (bound (g .lower)) _ (j .0)
+    (yes-and (bound (g .upper)) _ (j .1)
+    (yes-and (leb (at + length (g .categories)) total) _ (is-le (at + length (g .categories)) total (omega arith)) (rows-stand total (at + length (g .categories)) gs (i .1) (omega arith)))))
+
+ranging-rows : (at : ℕ) (gs : List Range) (rest : List ℕ) → ranging (rows at gs) (numbersOf gs ++ rest) ≡ gs
+unfolding ranging rows
+ranging-rows at [] rest = refl
+ranging-rows at (g ∷ gs) rest =
+    rw (append-assoc (g .categories) (numbersOf gs) rest, take-append-seam (g .categories) (numbersOf gs ++ rest),
+        drop-append-seam (g .categories) (numbersOf gs ++ rest), ranging-rows (at + length (g .categories)) gs rest)
+
+pub numbers-length : (gs : List Range) → length (numbersOf gs) ≡ references gs
+unfolding references
+numbers-length [] = refl
+numbers-length (g ∷ gs) = length-append (g .categories) (numbersOf gs) ∙ ap (λ m. length (g .categories) + m) (numbers-length gs)
+
+record Ranged (at : ℕ) (rs : List Row) (l : List ℕ) : Type 0 where
+  again-rows : rows at (ranging rs l) ≡ rs
+  again-numbers : numbersOf (ranging rs l) ≡ l
+  in-bounds : T (all bounded (ranging rs l))
+  as-many : length (ranging rs l) ≡ length rs
+
+ranged : (total at : ℕ) (rs : List Row) (l : List ℕ) → T (rowsStand total at rs) → at + length l ≡ total → Ranged at rs l
+unfolding rowsStand rows ranging bounded
+ranged total at [] [] t e = record { again-rows = refl; again-numbers = refl; in-bounds = tt; as-many = refl }
+ranged total at [] (x ∷ l) t e = absurd (let d : at ≡ total = eqb-yes t in omega arith)
+ranged total at (r ∷ rs) l t e =
+    let h = and-yes (eqb (r .first) at) _ t in
+    let i = and-yes (bound (r .lower)) _ (h .1) in
+    let j = and-yes (bound (r .upper)) _ (i .1) in
+    let k = and-yes (leb (at + r .count) total) (rowsStand total (at + r .count) rs) (j .1) in
+    let le : at + r .count ≤ total = leb-yes (k .0) in
+    let d : r .first ≡ at = eqb-yes (h .0) in
+    let n : length (take (r .count) l) ≡ r .count = length-take-le (r .count) l (omega arith) in
+    let s = ranged total (at + r .count) rs (drop (r .count) l) (k .1) (simp length-drop (omega arith)) in
+    record {
+      again-rows = ap₂ (λ (a : Row) (b : List Row). a ∷ b) (row-is r _ _ _ _ refl refl (sym d) n)
+        (ap (λ (m : ℕ). rows (at + m) (ranging rs (drop (r .count) l))) n ∙ s .again-rows);
+      again-numbers = ap (λ (m : List ℕ). take (r .count) l ++ m) (s .again-numbers) ∙ lib.ListN.take-append-drop (r .count) l;
+      in-bounds = yes-and (bound (r .lower) && bound (r .upper)) _ (yes-and (bound (r .lower)) (bound (r .upper)) (i .0) (j .0)) (s .in-bounds);
+      as-many = ap suc (s .as-many)
+    }
+
+-- ---- a reading's tables, with anything behind them, are that reading
+
+pub wide-place : (p : Place) → length (placeBytes p) ≡ 4
+wide-place p = refl
+
+pub wide-definition : (d : Definition) → length (definitionBytes d) ≡ 6
+wide-definition d = refl
+
+pub wide-row : (r : Row) → length (rowBytes r) ≡ 8
+wide-row r = refl
+
+pub wide-number : (n : ℕ) → length (le 2 n) ≡ 2
+wide-number n = refl
+
+-- a table and what stands behind it is long enough
+room : {A : Type 0} (w : ℕ) (f : A → List ℕ) → ((x : A) → length (f x) ≡ w) → (xs : List A) (n : ℕ) (rest : List ℕ) → length xs ≡ n
+    → w * n ≤ length (joined (map f xs) ++ rest)
+room w f wide xs n rest e =
+    let a : length (joined (map f xs) ++ rest) ≡ length (joined (map f xs)) + length rest = length-append (joined (map f xs)) rest in
+    let b : length (joined (map f xs)) ≡ w * length xs = table-length w f wide xs in
+    let c : w * length xs ≡ w * n = ap (λ m. w * m) e in
+    omega arith
+
+all-lt : (k : ℕ) (l : List ℕ) → k ≤ 65536 → T (all (λ c. ltb c k) l) → T (all small l)
+unfolding small
+all-lt k [] h t = tt
+all-lt k (x ∷ l) h t =
+    let i = and-yes (ltb x k) (all (λ c. ltb c k) l) t in
+    let j : x < k = ltb-yes (i .0) in
+    yes-and (ltb x 65536) (all small l) (is-lt x 65536 (omega arith)) (all-lt k l h (i .1))
+
+pub joined-length : (xs : List (List ℕ)) → length (joined xs) ≡ sum (map length xs)
+joined-length [] = refl
+joined-length (x ∷ xs) = length-append x (joined xs) ∙ ap (λ m. length x + m) (joined-length xs)
+
+module _ (r : Reading) (x : Tables) (ok : PackRules r) where
+  t : Tables
+  t = behind (layout r) x
+
+  n : Counts
+  n = countsOf r
+
+  places-in : placesIn t n ≡ places 0 (map length (r .names))
+  unfolding placesIn t n behind layout countsOf nameBytes
+  places-in =
+      let w = ok .within in
+      let h : sum (map length (r .names)) ≤ 16384 = w .names-fit in
+      there 4 placeBytes placeOf wide-place smallPlace place-there (places 0 (map length (r .names))) (length (r .names)) (x .categories)
+      (places-length 0 (map length (r .names)) ∙ length-map (r .names) length) (places-small 0 (map length (r .names)) (omega arith))
+
+  names-in : namesIn t n ≡ r .names
+  unfolding namesIn t behind layout
+  names-in =
+      ap (λ ps. split (map (λ p. p .len) ps) (joined (r .names) ++ x .names)) places-in
+      ∙ ap (λ l. split l (joined (r .names) ++ x .names)) (places-lens 0 (map length (r .names)))
+      ∙ split-joined (r .names) (x .names)
+
+  definitions-in : map definitionOf (pieces 6 (n .definitions) (t .definitions)) ≡ r .definitions
+  unfolding t n behind layout countsOf smallDefinition
+  definitions-in = there 6 definitionBytes definitionOf wide-definition smallDefinition definition-there (r .definitions) (length (r .definitions)) (x .definitions) refl (ok .lengths)
+
+  rows-in : rowsIn t n ≡ rows 0 (r .ranges)
+  unfolding rowsIn t n behind layout countsOf bounded
+  rows-in =
+      let w = ok .within in
+      let h : references (r .ranges) ≤ 8192 = w .references-fit in
+      there 8 rowBytes rowOf wide-row smallRow row-there (rows 0 (r .ranges)) (length (r .ranges)) (x .ranges)
+      (rows-length 0 (r .ranges)) (rows-small 0 (r .ranges) (ok .bounds) (omega arith))
+
+  numbers-in : numbersIn t n ≡ numbersOf (r .ranges)
+  unfolding numbersIn t n behind layout countsOf
+  numbers-in =
+      let w = ok .within in
+      let h : length (r .names) ≤ 512 = w .categories-fit in
+      there 2 (le 2) (num 2 0) wide-number small two (numbersOf (r .ranges)) (references (r .ranges)) (x .references)
+      (numbers-length (r .ranges)) (all-lt (length (r .names)) (numbersOf (r .ranges)) (omega arith) (ok .known))
+
+  ranges-in : ranging (rowsIn t n) (numbersIn t n) ≡ r .ranges
+  ranges-in =
+      ap₂ ranging rows-in (numbers-in ∙ sym (append-nil (numbersOf (r .ranges)))) ∙ ranging-rows 0 (r .ranges) []
+
+  flags-in : T (all flagged (pieces 6 (n .definitions) (t .definitions)))
+  unfolding t n behind layout countsOf flagged
+  flags-in = subst (λ l. T (all flagged l)) (sym (pieces-table 6 definitionBytes wide-definition (r .definitions) (x .definitions))) (go (r .definitions))
+    where
+      one : (b : Bool) → flag b ≤ 1
+      one true = omega arith
+      one false = omega arith
+
+      go : (ds : List Definition) → T (all flagged (map definitionBytes ds))
+      go [] = tt
+      go (d ∷ ds) = yes-and (flagged (definitionBytes d)) _ (yes-and (leb (flag (d .invoke)) 1) (leb (flag (d .group)) 1) (yes-leb (one (d .invoke))) (yes-leb (one (d .group)))) (go ds)
+
+  enough-in : enough (length (t .names)) (length (t .categories)) (length (t .definitions)) (length (t .ranges)) (length (t .references)) n ≡ true
+  unfolding t n behind layout countsOf enough nameBytes
+  enough-in =
+      let w = ok .within in
+      let a : length (joined (r .names) ++ x .names) ≡ length (joined (r .names)) + length (x .names) = length-append (joined (r .names)) (x .names) in
+      let b : length (joined (r .names)) ≡ sum (map length (r .names)) = joined-length (r .names) in
+      both (le-leb _ _ (w .categories-fit)) (both (le-leb _ _ (w .names-fit)) (both (le-leb _ _ (w .definitions-fit)) (both (le-leb _ _ (w .ranges-fit)) (both (le-leb _ _ (w .references-fit))
+      (both (le-leb (sum (map length (r .names))) (length (joined (r .names) ++ x .names)) (omega arith))
+      (both (le-leb _ _ (room 4 placeBytes wide-place (places 0 (map length (r .names))) (length (r .names)) (x .categories) (places-length 0 (map length (r .names)) ∙ length-map (r .names) length)))
+      (both (le-leb _ _ (room 6 definitionBytes wide-definition (r .definitions) (length (r .definitions)) (x .definitions) refl))
+      (both (le-leb _ _ (room 8 rowBytes wide-row (rows 0 (r .ranges)) (length (r .ranges)) (x .ranges) (rows-length 0 (r .ranges))))
+      (le-leb _ _ (room 2 (le 2) wide-number (numbersOf (r .ranges)) (references (r .ranges)) (x .references) (numbers-length (r .ranges)))))))))))) 
+
+  stand : T (placesStand (n .bytes) 0 (places 0 (map length (r .names))))
+  unfolding n countsOf nameBytes
+  stand = places-stand (sum (map length (r .names))) 0 (r .names) (ok .some-byte) (omega arith)
+
+  stand-rows : T (rowsStand (n .references) 0 (rows 0 (r .ranges)))
+  unfolding n countsOf bounded
+  stand-rows = rows-stand (references (r .ranges)) 0 (r .ranges) (ok .bounds) (omega arith)
+
+  known-in : T (all (λ c. ltb c (n .categories)) (numbersOf (r .ranges)))
+  unfolding n countsOf
+  known-in = ok .known
+
+  holds-in : holds t n ≡ true
+  unfolding holds
+  holds-in =
+      both enough-in
+      (both (ap (placesStand (n .bytes) 0) places-in ∙ T→true _ stand)
+      (both (T→true (all flagged (pieces 6 (n .definitions) (t .definitions))) flags-in)
+      (both (ap (rowsStand (n .references) 0) rows-in ∙ T→true _ stand-rows)
+      (both (ap (all (λ c. ltb c (n .categories))) numbers-in ∙ T→true _ known-in)
+      (both (ap (all sound) names-in ∙ T→true _ (ok .well)) (ap (newAfter []) names-in ∙ T→true _ (ok .once)))))))
+
+-- the law
+pub handed-in : (r : Reading) (x : Tables) → PackRules r → handedIn (behind (layout r) x) (countsOf r) ≡ some r
+unfolding handedIn decoded t n
+handed-in r x ok = rw (holds-in r x ok, names-in r x ok, definitions-in r x ok, ranges-in r x ok)
+
+-- ---- tables that are handed in are the layout of their reading
+
+pub record Bytes (t : Tables) : Type 0 where
+  pub in-categories : T (all isByte (t .categories))
+  pub in-definitions : T (all isByte (t .definitions))
+  pub in-ranges : T (all isByte (t .ranges))
+  pub in-references : T (all isByte (t .references))
+
+pub record Enough (names categories definitions ranges references : ℕ) (n : Counts) : Type 0 where
+  pub limits : (n .categories ≤ 512) × ((n .bytes ≤ 16384) × ((n .definitions ≤ 512) × ((n .ranges ≤ 2048) × (n .references ≤ 8192))))
+  pub for-names : n .bytes ≤ names
+  pub for-categories : 4 * n .categories ≤ categories
+  pub for-definitions : 6 * n .definitions ≤ definitions
+  pub for-ranges : 8 * n .ranges ≤ ranges
+  pub for-references : 2 * n .references ≤ references
+
+pub says : (a b c d e : ℕ) (n : Counts) → T (enough a b c d e n) → Enough a b c d e n
+unfolding enough
+says a b c d e n t =
+    let t1 = and-yes (leb (n .categories) 512) _ t in
+    let t2 = and-yes (leb (n .bytes) 16384) _ (t1 .1) in
+    let t3 = and-yes (leb (n .definitions) 512) _ (t2 .1) in
+    let t4 = and-yes (leb (n .ranges) 2048) _ (t3 .1) in
+    let t5 = and-yes (leb (n .references) 8192) _ (t4 .1) in
+    let t6 = and-yes (leb (n .bytes) a) _ (t5 .1) in
+    let t7 = and-yes (leb (4 * n .categories) b) _ (t6 .1) in
+    let t8 = and-yes (leb (6 * n .definitions) c) _ (t7 .1) in
+    let t9 = and-yes (leb (8 * n .ranges) d) (leb (2 * n .references) e) (t8 .1) in
+    record {
+      limits = (leb-yes (t1 .0), (leb-yes (t2 .0), (leb-yes (t3 .0), (leb-yes (t4 .0), leb-yes (t5 .0)))));
+      for-names = leb-yes (t6 .0);
+      for-categories = leb-yes (t7 .0);
+      for-definitions = leb-yes (t8 .0);
+      for-ranges = leb-yes (t9 .0);
+      for-references = leb-yes (t9 .1)
+    }
+
+record Parts (t : Tables) (n : Counts) : Type 0 where
+  long : Enough (length (t .names)) (length (t .categories)) (length (t .definitions)) (length (t .ranges)) (length (t .references)) n
+  placed : T (placesStand (n .bytes) 0 (placesIn t n))
+  flags : T (all flagged (pieces 6 (n .definitions) (t .definitions)))
+  rowed : T (rowsStand (n .references) 0 (rowsIn t n))
+  known : T (all (λ c. ltb c (n .categories)) (numbersIn t n))
+  well : T (all sound (namesIn t n))
+  once : T (newAfter [] (namesIn t n))
+
+parts : (t : Tables) (n : Counts) → T (holds t n) → Parts t n
+unfolding holds
+parts t n h =
+    let h1 = and-yes (enough (length (t .names)) (length (t .categories)) (length (t .definitions)) (length (t .ranges)) (length (t .references)) n) _ h in
+    let h2 = and-yes (placesStand (n .bytes) 0 (placesIn t n)) _ (h1 .1) in
+    let h3 = and-yes (all flagged (pieces 6 (n .definitions) (t .definitions))) _ (h2 .1) in
+    let h4 = and-yes (rowsStand (n .references) 0 (rowsIn t n)) _ (h3 .1) in
+    let h5 = and-yes (all (λ c. ltb c (n .categories)) (numbersIn t n)) _ (h4 .1) in
+    let h6 = and-yes (all sound (namesIn t n)) (newAfter [] (namesIn t n)) (h5 .1) in
+    record {
+      long = says _ _ _ _ _ n (h1 .0); placed = h2 .0; flags = h3 .0; rowed = h4 .0; known = h5 .0; well = h6 .0; once = h6 .1
+    }
+
+all-both : {A : Type 0} (p q : A → Bool) (l : List A) → T (all p l) → T (all q l) → T (all (λ x. p x && q x) l)
+all-both p q [] s t = tt
+all-both p q (x ∷ l) s t =
+    let a = and-yes (p x) (all p l) s in
+    let b = and-yes (q x) (all q l) t in
+    yes-and (p x && q x) _ (yes-and (p x) (q x) (a .0) (b .0)) (all-both p q l (a .1) (b .1))
+
+counts-is : (n : Counts) (a b c d e : ℕ) → a ≡ n .categories → b ≡ n .definitions → c ≡ n .ranges → d ≡ n .references → e ≡ n .bytes
+    → _≡_ {A = Counts} (record { categories = a; definitions = b; ranges = c; references = d; bytes = e }) n
+counts-is n a b c d e f g h i j = rw (f, g, h, i, j)
+
+count-numbers : (t : Tables) (n : Counts) → length (numbersIn t n) ≡ n .references
+unfolding numbersIn
+count-numbers t n = length-map (pieces 2 (n .references) (t .references)) (num 2 0) ∙ pieces-length 2 (n .references) (t .references)
+
+count-names : (r : Reading) (n : Counts) → countsOf r ≡ n → length (r .names) ≡ n .categories
+unfolding countsOf
+count-names r n e = ap (λ m. m .categories) e
+
+within-from : (r : Reading) (n : Counts) → countsOf r ≡ n
+    → (n .categories ≤ 512) × ((n .bytes ≤ 16384) × ((n .definitions ≤ 512) × ((n .ranges ≤ 2048) × (n .references ≤ 8192)))) → Within r
+unfolding countsOf
+within-from r n e k =
+    let a : length (r .names) ≡ n .categories = ap (λ m. m .categories) e in
+    let b : length (r .definitions) ≡ n .definitions = ap (λ m. m .definitions) e in
+    let c : length (r .ranges) ≡ n .ranges = ap (λ m. m .ranges) e in
+    let d : references (r .ranges) ≡ n .references = ap (λ m. m .references) e in
+    let f : nameBytes (r .names) ≡ n .bytes = ap (λ m. m .bytes) e in
+    record { categories-fit = omega arith; names-fit = omega arith; definitions-fit = omega arith; ranges-fit = omega arith; references-fit = omega arith }
+
+as-bounded : (gs : List Range) → T (all bounded gs) → T (all (λ g. bound (g .lower) && bound (g .upper)) gs)
+unfolding bounded
+as-bounded gs t = t
+
+lengths-small : (n : ℕ) (l : List ℕ) → T (all isByte l) → T (all (λ d. ltb (d .len) 4294967296) (map definitionOf (pieces 6 n l)))
+unfolding pieces num
+lengths-small zero l t = tt
+lengths-small (suc n) l t =
+    yes-and (ltb (value (take 4 (take 6 l))) 4294967296) _
+    (is-lt (value (take 4 (take 6 l))) 4294967296 (value-small 4 (take 4 (take 6 l)) (all-take isByte 4 (take 6 l) (all-take isByte 6 l t)) (short 4 (take 6 l))))
+    (lengths-small n (drop 6 l) (all-drop isByte 6 l t))
+
+module _ (t : Tables) (n : Counts) (b : Bytes t) (h : Parts t n) where
+  names-lens : map length (namesIn t n) ≡ map (λ p. p .len) (placesIn t n)
+  unfolding namesIn
+  names-lens =
+      let s = standing (n .bytes) 0 (placesIn t n) (h .placed) in
+      let e = s .adds-up in
+      let k = h .long .for-names in
+      split-lengths (map (λ p. p .len) (placesIn t n)) (t .names) (omega arith)
+
+  used-names : joined (namesIn t n) ≡ take (n .bytes) (t .names)
+  unfolding namesIn
+  used-names =
+      let s = standing (n .bytes) 0 (placesIn t n) (h .placed) in
+      let d = s .adds-up in
+      let e : sum (map (λ p. p .len) (placesIn t n)) ≡ n .bytes = omega arith in
+      joined-split (map (λ p. p .len) (placesIn t n)) (t .names) ∙ ap (λ m. take m (t .names)) e
+
+  used-categories : joined (map placeBytes (places 0 (map length (namesIn t n)))) ≡ take (4 * n .categories) (t .categories)
+  unfolding placesIn
+  used-categories =
+      ap (λ l. joined (map placeBytes (places 0 l))) names-lens
+      ∙ ap (λ l. joined (map placeBytes l)) (standing (n .bytes) 0 (placesIn t n) (h .placed) .again-places)
+      ∙ go
+    where
+      go : joined (map placeBytes (placesIn t n)) ≡ take (4 * n .categories) (t .categories)
+      go = again 4 placeBytes placeOf (whole 4) place-back (n .categories) (t .categories)
+          (pieces-whole 4 (n .categories) (t .categories) (b .in-categories) (h .long .for-categories))
+
+  used-definitions : joined (map definitionBytes (map definitionOf (pieces 6 (n .definitions) (t .definitions)))) ≡ take (6 * n .definitions) (t .definitions)
+  used-definitions =
+      again 6 definitionBytes definitionOf (λ p. whole 6 p && flagged p) definition-back (n .definitions) (t .definitions)
+      (all-both (whole 6) flagged (pieces 6 (n .definitions) (t .definitions))
+      (pieces-whole 6 (n .definitions) (t .definitions) (b .in-definitions) (h .long .for-definitions)) (h .flags))
+
+  ranges-are : Ranged 0 (rowsIn t n) (numbersIn t n)
+  unfolding numbersIn
+  ranges-are =
+      let e : length (map (num 2 0) (pieces 2 (n .references) (t .references))) ≡ n .references =
+          length-map (pieces 2 (n .references) (t .references)) (num 2 0) ∙ pieces-length 2 (n .references) (t .references) in
+      ranged (n .references) 0 (rowsIn t n) (numbersIn t n) (h .rowed) (omega arith)
+
+  used-ranges : joined (map rowBytes (rows 0 (ranging (rowsIn t n) (numbersIn t n)))) ≡ take (8 * n .ranges) (t .ranges)
+  unfolding rowsIn
+  used-ranges =
+      ap (λ l. joined (map rowBytes l)) (ranges-are .again-rows)
+      ∙ again 8 rowBytes rowOf (whole 8) row-back (n .ranges) (t .ranges)
+        (pieces-whole 8 (n .ranges) (t .ranges) (b .in-ranges) (h .long .for-ranges))
+
+  used-references : joined (map (le 2) (numbersOf (ranging (rowsIn t n) (numbersIn t n)))) ≡ take (2 * n .references) (t .references)
+  unfolding numbersIn
+  used-references =
+      ap (λ l. joined (map (le 2) l)) (ranges-are .again-numbers)
+      ∙ again 2 (le 2) (num 2 0) (whole 2) number-back (n .references) (t .references)
+        (pieces-whole 2 (n .references) (t .references) (b .in-references) (h .long .for-references))
+
+  -- the counts are the reading's
+  counts-are : countsOf (decoded t n) ≡ n
+  unfolding countsOf decoded nameBytes rowsIn placesIn
+  counts-are =
+      let s = standing (n .bytes) 0 (placesIn t n) (h .placed) in
+      let adds = s .adds-up in
+      let sums : sum (map length (namesIn t n)) ≡ sum (map (λ p. p .len) (placesIn t n)) = ap sum names-lens in
+      let many : length (map length (namesIn t n)) ≡ length (map (λ p. p .len) (placesIn t n)) = ap length names-lens in
+      let e1 = length-map (namesIn t n) length in
+      let e2 = length-map (placesIn t n) (λ p. p .len) in
+      let e3 = length-map (pieces 4 (n .categories) (t .categories)) placeOf in
+      let e4 = pieces-length 4 (n .categories) (t .categories) in
+      let f1 = length-map (pieces 6 (n .definitions) (t .definitions)) definitionOf in
+      let f2 = pieces-length 6 (n .definitions) (t .definitions) in
+      let g1 = ranges-are .as-many in
+      let g2 = length-map (pieces 8 (n .ranges) (t .ranges)) rowOf in
+      let g3 = pieces-length 8 (n .ranges) (t .ranges) in
+      counts-is n _ _ _ _ _ (omega arith) (f1 ∙ f2) (g1 ∙ g2 ∙ g3) references-are (omega arith)
+    where
+      references-are : references (ranging (rowsIn t n) (numbersIn t n)) ≡ n .references
+      references-are = sym (numbers-length (ranging (rowsIn t n) (numbersIn t n))) ∙ ap length (ranges-are .again-numbers) ∙ count-numbers t n
+
+  some-names : T (all (λ l. not (empty l)) (namesIn t n))
+  some-names = go (namesIn t n) (subst (λ l. T (all (λ k. ltb 0 k) l)) (sym names-lens) (standing (n .bytes) 0 (placesIn t n) (h .placed) .none-empty))
+    where
+      go : (ls : List (List ℕ)) → T (all (λ k. ltb 0 k) (map length ls)) → T (all (λ l. not (empty l)) ls)
+      go [] u = tt
+      go ([] ∷ ls) u = absurd u
+      go ((a ∷ l) ∷ ls) u = go ls (and-yes (ltb 0 (suc (length l))) _ u .1)
+
+  rules-kept : PackRules (decoded t n)
+  unfolding decoded
+  rules-kept =
+      let k = h .long .limits in
+      let e = counts-are in
+      record {
+        within = within-from (decoded t n) n e k;
+        some-byte = some-names;
+        well = h .well;
+        once = h .once;
+        lengths = lengths-small (n .definitions) (t .definitions) (b .in-definitions);
+        bounds = bounds-are;
+        known = subst (λ l. T (all (λ c. ltb c (length (namesIn t n))) l)) (sym (ranges-are .again-numbers))
+          (subst (λ m. T (all (λ c. ltb c m) (numbersIn t n))) (sym (names-count e)) (h .known))
+      }
+    where
+      bounds-are : T (all (λ g. bound (g .lower) && bound (g .upper)) (ranging (rowsIn t n) (numbersIn t n)))
+      bounds-are = as-bounded (ranging (rowsIn t n) (numbersIn t n)) (ranges-are .in-bounds)
+
+      names-count : countsOf (decoded t n) ≡ n → length (namesIn t n) ≡ n .categories
+      names-count e = count-names (decoded t n) n e
+
+pub tables-is : (t : Tables) (a b c d e : List ℕ) → a ≡ t .names → b ≡ t .categories → c ≡ t .definitions → d ≡ t .ranges → e ≡ t .references
+    → _≡_ {A = Tables} (record { names = a; categories = b; definitions = c; ranges = d; references = e }) t
+tables-is t a b c d e f g h i j = rw (f, g, h, i, j)
+
+laid : (t : Tables) (n : Counts) → Bytes t → Parts t n → layout (decoded t n) ≡ used n t
+unfolding layout decoded used
+laid t n b h =
+    tables-is (used n t) _ _ _ _ _ (used-names t n b h) (used-categories t n b h) (used-definitions t n b h) (used-ranges t n b h) (used-references t n b h)
+
+pub record Handed (t : Tables) (n : Counts) (r : Reading) : Type 0 where
+  pub laid-out : layout r ≡ used n t
+  pub counted : countsOf r ≡ n
+  pub rules : PackRules r
+
+-- what is handed in
+pub handed-holds : (t : Tables) (n : Counts) → Bytes t → T (holds t n) → Handed t n (decoded t n)
+handed-holds t n b u =
+    let h = parts t n u in
+    record { laid-out = laid t n b h; counted = counts-are t n b h; rules = rules-kept t n b h }
+
+pub handed-back : (t : Tables) (n : Counts) (r : Reading) → Bytes t → handedIn t n ≡ some r → Handed t n r
+unfolding handedIn
+handed-back t n r b e = go (holds t n) refl e
+  where
+    go : (x : Bool) → holds t n ≡ x → cond x (some (decoded t n)) none ≡ some r → Handed t n r
+    go true q e =
+        let d : decoded t n ≡ r = cc in
+        subst (λ s. Handed t n s) d (handed-holds t n b (true→T (holds t n) q))
+    go false q e = absurd (let z : _≡_ {A = ℕ} 0 1 = cc in omega arith)

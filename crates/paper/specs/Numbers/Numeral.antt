@@ -1,0 +1,108 @@
+-- Numbers.Numeral.
+-- Assumes nothing.
+use Prim.Native.Nat.{ℕ, _+_, _-_, _*_, _≤_, _%_}
+use mathlib.Core.Path.{_≡_}
+use mathlib.Core.Bool.{Bool, true, false, cond, _&&_}
+use mathlib.Core.List.{List, [], _∷_, _++_}
+use mathlib.Core.Option.{Option, none, some}
+use lib.Dec.{T, leb, ltb, eqb}
+use Rattle.paper.specs.Lists.{full}
+use Rattle.paper.specs.Text.Scalar.{between}
+
+-- ---- characters
+
+-- the value of a digit of either case; 16 where it is none
+unfoldable pub digitOf : ℕ → ℕ
+digitOf c = cond (between 48 57 c) (c - 48) (cond (between 65 70 c) (c - 55) (cond (between 97 102 c) (c - 87) 16))
+
+unfoldable pub isDigit : ℕ → ℕ → Bool
+unfolding digitOf
+isDigit base c = ltb (digitOf c) base
+
+-- the number that digits spell, after `high`
+unfoldable pub valueAfter : ℕ → ℕ → List ℕ → ℕ
+unfolding digitOf
+valueAfter base high [] = high
+valueAfter base high (d ∷ ds) = valueAfter base (high * base + digitOf d) ds
+
+-- nothing, or `+`
+abbrev pub plus : List ℕ → Bool
+plus [] = true
+plus (c ∷ []) = eqb c 43
+plus (c ∷ d ∷ cs) = false
+
+-- ---- the pieces of a line
+
+-- an optional `+` and one or more digits, of a value up to the limit
+pub record Numeral (base limit : ℕ) (cs : List ℕ) (n : ℕ) : Type 0 where
+  pub sign : List ℕ
+  pub digits : List ℕ
+  pub whole : cs ≡ sign ++ digits
+  pub signed : T (plus sign)
+  pub spelled : T (full (isDigit base) digits)
+  pub value : n ≡ valueAfter base 0 digits
+  pub fits : n ≤ limit
+
+-- ---- numbers
+
+abbrev pub dropPlus : List ℕ → List ℕ
+dropPlus [] = []
+dropPlus (c ∷ cs) = cond (eqb c 43) cs (c ∷ cs)
+
+unfoldable pub spelledBy : ℕ → ℕ → List ℕ → Option ℕ
+unfolding isDigit valueAfter
+spelledBy base limit ds =
+    let n = valueAfter base 0 ds in
+    cond (full (isDigit base) ds && leb n limit) (some n) none
+
+unfoldable pub numeral : ℕ → ℕ → List ℕ → Option ℕ
+unfolding spelledBy
+numeral base limit cs = spelledBy base limit (dropPlus cs)
+
+-- one or more digits of a base, of a value up to a limit
+pub record Spelled (base limit : ℕ) (ds : List ℕ) (n : ℕ) : Type 0 where
+  pub digits : T (full (isDigit base) ds)
+  pub value : n ≡ valueAfter base 0 ds
+  pub fits : n ≤ limit
+
+-- ---- signs
+
+-- a whole number; `neg 0` is 0 too
+pub data Integer : Type 0 where
+  pos : ℕ → Integer
+  neg : ℕ → Integer
+
+-- `-` and digits
+pub record Negative (base limit : ℕ) (cs : List ℕ) (n : ℕ) : Type 0 where
+  pub digits : List ℕ
+  pub whole : cs ≡ 45 ∷ digits
+  pub is-spelled : Spelled base limit digits n
+
+-- an optional sign and one or more digits: up to `top` with `+` or no sign, up to `low` with `-`
+abbrev pub SignedNumeral : ℕ → ℕ → ℕ → List ℕ → Integer → Type 0
+SignedNumeral base top low cs (pos n) = Numeral base top cs n
+SignedNumeral base top low cs (neg n) = Negative base low cs n
+
+abbrev pub asPos : Option ℕ → Option Integer
+asPos none = none
+asPos (some n) = some (pos n)
+
+abbrev pub asNeg : Option ℕ → Option Integer
+asNeg none = none
+asNeg (some n) = some (neg n)
+
+unfoldable pub signedNumeral : ℕ → ℕ → ℕ → List ℕ → Option Integer
+unfolding spelledBy numeral
+signedNumeral base top low [] = none
+signedNumeral base top low (c ∷ cs) = cond (eqb c 45) (asNeg (spelledBy base low cs)) (asPos (numeral base top (c ∷ cs)))
+
+-- ---- sixteen bits
+
+-- a number below 65,536 that a whole number is kept as: modulo 65,536, a negative one in two's complement
+unfoldable pub wrap16 : Integer → ℕ
+wrap16 (pos n) = n % 65536
+wrap16 (neg n) = (65536 - n % 65536) % 65536
+
+-- what a number below 65,536 means as a signed one: below 32,768 itself, from there on 65,536 less
+unfoldable pub meaning16 : ℕ → Integer
+meaning16 w = cond (ltb w 32768) (pos w) (neg (65536 - w))

@@ -1,0 +1,70 @@
+-- The pack of a reading: bits, most significant first, and the bytes that hold them.
+-- Assumes nothing.
+use Prim.Native.Nat.{ℕ, zero, suc, _+_, _*_, _/_, _%_, _^_}
+use mathlib.Core.Bool.{Bool, cond}
+use mathlib.Core.List.{List, [], _∷_, _++_, map}
+use lib.ListN.{length}
+use Rattle.paper.specs.Lists.{joined}
+use Rattle.paper.specs.CharDef.Reading.{Definition, Range, Reading, references}
+
+-- a field: its width and its value
+abbrev pub Field : Type 0
+Field = ℕ × ℕ
+
+abbrev pub flag : Bool → ℕ
+flag b = cond b 1 0
+
+abbrev pub field : ℕ → ℕ → Field
+field w n = (w, n)
+
+unfoldable pub head : Reading → List Field
+unfolding references
+head r =
+    field 8 1 ∷ field 10 (length (r .names)) ∷ field 10 (length (r .definitions)) ∷ field 12 (length (r .ranges))
+    ∷ field 14 (references (r .ranges)) ∷ []
+
+abbrev pub nameFields : List ℕ → List Field
+nameFields name = field 15 (length name) ∷ map (field 8) name
+
+abbrev pub definitionFields : Definition → List Field
+definitionFields d = field 1 (flag (d .invoke)) ∷ field 1 (flag (d .group)) ∷ field 32 (d .len) ∷ []
+
+abbrev pub rangeFields : Range → List Field
+rangeFields g = field 16 (g .lower) ∷ field 16 (g .upper) ∷ field 14 (length (g .categories)) ∷ map (field 9) (g .categories)
+
+unfoldable pub packFields : Reading → List Field
+unfolding head
+packFields r =
+    head r
+    ++ (joined (map nameFields (r .names)) ++ (joined (map definitionFields (r .definitions)) ++ joined (map rangeFields (r .ranges))))
+
+-- the low w bits of n, the most significant first
+abbrev pub bits : ℕ → ℕ → List ℕ
+bits zero n = []
+bits (suc w) n = n / 2 ^ w % 2 ∷ bits w n
+
+abbrev pub fieldBits : Field → List ℕ
+fieldBits f = bits (f .0) (f .1)
+
+unfoldable pub packBits : Reading → List ℕ
+unfolding packFields
+packBits r = joined (map fieldBits (packFields r))
+
+abbrev pub byte : ℕ → ℕ → ℕ → ℕ → ℕ → ℕ → ℕ → ℕ → ℕ
+byte a b c d e f g h = a * 128 + b * 64 + c * 32 + d * 16 + e * 8 + f * 4 + g * 2 + h
+
+-- eight bits to a byte; zero bits fill the last
+unfoldable pub inBytes : List ℕ → List ℕ
+inBytes [] = []
+inBytes (a ∷ []) = byte a 0 0 0 0 0 0 0 ∷ []
+inBytes (a ∷ b ∷ []) = byte a b 0 0 0 0 0 0 ∷ []
+inBytes (a ∷ b ∷ c ∷ []) = byte a b c 0 0 0 0 0 ∷ []
+inBytes (a ∷ b ∷ c ∷ d ∷ []) = byte a b c d 0 0 0 0 ∷ []
+inBytes (a ∷ b ∷ c ∷ d ∷ e ∷ []) = byte a b c d e 0 0 0 ∷ []
+inBytes (a ∷ b ∷ c ∷ d ∷ e ∷ f ∷ []) = byte a b c d e f 0 0 ∷ []
+inBytes (a ∷ b ∷ c ∷ d ∷ e ∷ f ∷ g ∷ []) = byte a b c d e f g 0 ∷ []
+inBytes (a ∷ b ∷ c ∷ d ∷ e ∷ f ∷ g ∷ h ∷ s) = byte a b c d e f g h ∷ inBytes s
+
+unfoldable pub packBytes : Reading → List ℕ
+unfolding packBits inBytes
+packBytes r = inBytes (packBits r)

@@ -1,0 +1,101 @@
+-- Pack.Rules.
+-- Assumes nothing.
+use Prim.Native.Nat.{ℕ}
+use mathlib.Core.Bool.{Bool, true, false, not, _&&_}
+use mathlib.Core.List.{List, [], _∷_}
+use lib.Dec.{T, leb, ltb, eqb}
+use lib.ListN.{length}
+use Rattle.paper.specs.Lists.{all, any, same, empty}
+use Rattle.paper.specs.CharDef.Reading.{Definition, Range, Reading, nameBytes, references, Within}
+use Rattle.paper.specs.Text.Scalar.{between, WellFormed}
+use Rattle.paper.specs.Text.Decode.{Text, broken, chars, decode}
+
+-- ---- rows
+
+-- every category number is known
+unfoldable pub numbered : Reading → Bool
+numbered r = all (λ g. all (λ c. ltb c (length (r .names))) (g .categories)) (r .ranges)
+
+-- ---- the tests
+
+abbrev pub isText : Text → Bool
+isText (broken at) = false
+isText (chars cs) = true
+
+-- well-formed UTF-8
+unfoldable pub formed : List ℕ → Bool
+unfolding decode
+formed s = isText (decode s)
+
+abbrev pub some : List ℕ → Bool
+some n = not (empty n)
+
+-- no name equals one before it: `before` holds those passed already
+abbrev pub onceAfter : List (List ℕ) → List (List ℕ) → Bool
+onceAfter before [] = true
+onceAfter before (n ∷ ns) = not (any (same n) before) && onceAfter (n ∷ before) ns
+
+-- no name twice
+abbrev pub once : List (List ℕ) → Bool
+once ns = onceAfter [] ns
+
+-- a bound has 16 bits and is not D800 to DFFF, FEFF or FFFE
+unfoldable pub isBound : ℕ → Bool
+isBound c = leb c 0xFFFF && not (between 0xD800 0xDFFF c) && not (eqb c 0xFEFF) && not (eqb c 0xFFFE)
+
+unfoldable pub bounded : Range → Bool
+unfolding isBound
+bounded g = isBound (g .lower) && isBound (g .upper)
+
+-- a definition's length has 32 bits
+abbrev pub sized : Definition → Bool
+sized d = ltb (d .len) 0x1_0000_0000
+
+-- all of these
+abbrev pub every : List Bool → Bool
+every [] = true
+every (b ∷ bs) = b && every bs
+
+unfoldable pub within : Reading → Bool
+within r =
+    every
+    (leb (length (r .names)) 512
+    ∷ leb (nameBytes (r .names)) 16384
+    ∷ leb (length (r .definitions)) 512
+    ∷ leb (length (r .ranges)) 2048
+    ∷ leb (references (r .ranges)) 8192
+    ∷ [])
+
+-- a reading keeps every rule of a pack
+unfoldable pub keepsRules : Reading → Bool
+unfolding within formed bounded numbered
+keepsRules r =
+    every
+    (within r
+    ∷ all some (r .names)
+    ∷ all formed (r .names)
+    ∷ once (r .names)
+    ∷ all sized (r .definitions)
+    ∷ all bounded (r .ranges)
+    ∷ numbered r
+    ∷ [])
+
+-- ---- the rules
+
+abbrev pub Each : {A : Type 0} → (A → Type 0) → List A → Type 0
+Each P [] = Unit {0}
+Each P (x ∷ xs) = P x × Each P xs
+
+pub record PackRules (r : Reading) : Type 0 where
+  -- all limits
+  pub limits : Within r
+  -- each name: length at least 1, well-formed UTF-8, no name twice
+  pub names-some : T (all some (r .names))
+  pub names-formed : Each WellFormed (r .names)
+  pub names-once : T (once (r .names))
+  -- each definition's length has 32 bits
+  pub lengths : T (all sized (r .definitions))
+  -- bounds of 16 bits, not D800 to DFFF, FEFF or FFFE
+  pub bounds : T (all bounded (r .ranges))
+  -- category numbers known
+  pub known : T (numbered r)

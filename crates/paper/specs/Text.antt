@@ -1,0 +1,2 @@
+pub mod Scalar
+pub mod Decode

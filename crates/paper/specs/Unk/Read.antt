@@ -1,0 +1,92 @@
+-- Unk.Read.
+-- Assumes nothing.
+use Prim.Native.Nat.{ℕ, suc, _%_}
+use mathlib.Core.Bool.{Bool, true, false, cond}
+use mathlib.Core.Option.{Option, none, some}
+use mathlib.Core.List.{List, [], _∷_}
+use lib.Dec.{ltb}
+use lib.ListN.{length}
+use Rattle.paper.specs.Lists.{empty, cut, is, joinWith}
+use Rattle.paper.specs.Text.Decode.{Text, broken, chars, decode}
+use Rattle.paper.specs.Numbers.Numeral.{numeral, Integer, signedNumeral, wrap16}
+use Rattle.paper.specs.Unk.Entry.{Entry, Unk, unkOf}
+
+-- one CR at the end is dropped
+abbrev pub dropCR : List ℕ → List ℕ
+dropCR [] = []
+dropCR (c ∷ []) = cond (is 13 c) [] (c ∷ [])
+dropCR (c ∷ d ∷ cs) = c ∷ dropCR (d ∷ cs)
+
+abbrev pub fromPieces : List (List ℕ) → List (List ℕ)
+fromPieces [] = []
+fromPieces (l ∷ []) = cond (empty l) [] (l ∷ [])
+fromPieces (l ∷ m ∷ ls) = dropCR l ∷ fromPieces (m ∷ ls)
+
+unfoldable pub unkLines : List ℕ → List (List ℕ)
+unkLines bytes = fromPieces (cut (is 10) bytes)
+
+pub data UnkFound : Type 0 where
+  entry : Entry → UnkFound
+  no-entry : ℕ → UnkFound
+
+abbrev pub fromUnkNumbers : List ℕ → Option ℕ → Option ℕ → Option Integer → List (List ℕ) → UnkFound
+fromUnkNumbers name none r c ds = no-entry 24
+fromUnkNumbers name (some l) none c ds = no-entry 24
+fromUnkNumbers name (some l) (some r) none ds = no-entry 24
+fromUnkNumbers name (some l) (some r) (some c) ds =
+    entry (record { category = name; left = l % 65536; right = r % 65536; cost = wrap16 c; details = joinWith 0 ds })
+
+unfoldable pub fromFields : List (List ℕ) → UnkFound
+unfolding numeral signedNumeral wrap16
+fromFields [] = no-entry 23
+fromFields (a ∷ []) = no-entry 23
+fromFields (a ∷ b ∷ []) = no-entry 23
+fromFields (a ∷ b ∷ c ∷ []) = no-entry 23
+fromFields (a ∷ b ∷ c ∷ d ∷ ds) =
+    fromUnkNumbers a (numeral 10 0xFFFF_FFFF b) (numeral 10 0xFFFF_FFFF c) (signedNumeral 10 2147483647 2147483648 d) ds
+
+-- the entry that a line says, or what is wrong with it: 23 or 24
+unfoldable pub unkLineOf : List ℕ → UnkFound
+unfolding fromFields
+unkLineOf cs = fromFields (cut (is 44) cs)
+
+-- ---- the answer
+
+pub data Entries : Type 0 where
+  entries-are : List Entry → Entries
+  stops : ℕ → ℕ → Entries
+
+abbrev pub consEntry : Entry → Entries → Entries
+consEntry e (entries-are es) = entries-are (e ∷ es)
+consEntry e (stops n place) = stops n place
+
+-- a line is an entry, so line k is entry k: 25 is given at line 4,097
+abbrev pub orFull : Bool → ℕ → Entry → (ℕ → Entries) → Entries
+orFull true k e go = stops 25 k
+orFull false k e go = consEntry e (go (suc k))
+
+abbrev pub enterUnk : ℕ → UnkFound → (ℕ → Entries) → Entries
+enterUnk k (no-entry n) go = stops n k
+enterUnk k (entry e) go = orFull (ltb 4096 k) k e go
+
+unfoldable pub readEntries : ℕ → List (List ℕ) → Entries
+unfolding unkLineOf
+readEntries k [] = entries-are []
+readEntries k (cs ∷ css) = enterUnk k (unkLineOf cs) (λ j. readEntries j css)
+
+pub data UnkAnswer : Type 0 where
+  accepted : Unk → UnkAnswer
+  -- number and place
+  refused : ℕ → ℕ → UnkAnswer
+
+abbrev pub answerUnk : List (List ℕ) → Entries → UnkAnswer
+answerUnk names (entries-are es) = accepted (unkOf names es)
+answerUnk names (stops n place) = refused n place
+
+abbrev pub readUnkText : List (List ℕ) → List ℕ → Text → UnkAnswer
+readUnkText names bytes (broken at) = refused 3 at
+readUnkText names bytes (chars cs) = answerUnk names (readEntries 1 (unkLines bytes))
+
+unfoldable pub readUnk : List (List ℕ) → List ℕ → UnkAnswer
+unfolding decode readEntries unkLines unkOf
+readUnk names bytes = cond (ltb 65536 (length bytes)) (refused 2 0) (readUnkText names bytes (decode bytes))
