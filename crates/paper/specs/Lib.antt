@@ -1,3 +1,5 @@
+pub mod Sizes
+pub mod Refusals
 pub mod Lists
 pub mod Text
 pub mod CharDef

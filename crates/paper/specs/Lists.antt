@@ -25,9 +25,9 @@ module _ {ℓ} {A : Type ℓ} where
   any p (x ∷ xs) = p x || any p xs
 
   -- nothing, or an element that passes and anything
-  abbrev pub edge : (A → Bool) → List A → Bool
-  edge p [] = true
-  edge p (x ∷ xs) = p x
+  abbrev pub nothingOr : (A → Bool) → List A → Bool
+  nothingOr p [] = true
+  nothingOr p (x ∷ xs) = p x
 
   -- the elements that pass, in order
   abbrev pub select : (A → Bool) → List A → List A

@@ -18,7 +18,7 @@ use Rattle.paper.specs.CharDef.Line.{Line, blank, category, range, begin
 use Rattle.paper.specs.CharDef.Reading.{Definition, Reading, Fits, nameBytes, references, isLF}
 use Rattle.paper.specs.Text.Decode.{First, bad, good, first, Text, broken, chars, consText, onward, decodeFrom, decode}
 use Rattle.paper.specs.Numbers.Numeral.{numeral}
-use Rattle.paper.specs.CharDef.Read.{Found, found, wrong, Edge, edge, noEdge, strip0x, parts, checkedBound, boundOf, fromEdges, fromParts, rangeOf, fromNumbers, categoryOf, body, bodyLine, lineOf, go-on, stop, Interned, names-are, full-at, internOne, afterOne, intern, addRange, addDefinition, enter, enterFound, verdict, Answer, accepted, refused, readLines, nothingRead, readChars, readText}
+use Rattle.paper.specs.CharDef.Read.{Found, found, wrong, BoundFound, boundIs, noBound, strip0x, parts, checkedBound, boundOf, fromBounds, fromParts, rangeOf, fromNumbers, categoryOf, body, bodyLine, lineOf, go-on, stop, Interned, names-are, full-at, internOne, afterOne, intern, addRange, addDefinition, enter, enterFound, verdict, Answer, accepted, refused, readLines, nothingRead, readChars, readText}
 use Rattle.paper.specs.CharDef.Bad.{FirstBad}
 use Rattle.paper.proofs.CharDef.Sound.{zero-one}
 use Rattle.paper.proofs.Text.Code.{decode-complete, decode-sound, broken-chars}
@@ -103,7 +103,7 @@ prefix-of bytes p e =
 abbrev Lined : ℕ → Type 0
 Lined n = (4 ≤ n) × (n ≤ 13)
 
-edge-no {ℓ} : {X : Type ℓ} {v n : ℕ} → edge v ≡ noEdge n → X
+edge-no {ℓ} : {X : Type ℓ} {v n : ℕ} → boundIs v ≡ noBound n → X
 edge-no e = zero-one (cc)
 
 found-wrong {ℓ} : {X : Type ℓ} {l : Line} {n : ℕ} → found l ≡ wrong n → X
@@ -121,24 +121,24 @@ wrong-is k n a b h = let e : k ≡ n = cc in (omega arith, omega arith)
 stop-is : (k n : ℕ) → 4 ≤ k → k ≤ 13 → stop k ≡ stop n → Lined n
 stop-is k n a b h = let e : k ≡ n = cc in (omega arith, omega arith)
 
-bound-number : (o : Option ℕ) (n : ℕ) → checkedBound o ≡ noEdge n → Lined n
+bound-number : (o : Option ℕ) (n : ℕ) → checkedBound o ≡ noBound n → Lined n
 unfolding checkedBound
 bound-number none n h = let e : 5 ≡ n = cc in (omega arith, omega arith)
 bound-number (some c) n h = go (eqb c 0xFEFF || eqb c 0xFFFE) h
   where
-    go : (b : Bool) → cond b (noEdge 6) (edge (standsFor c)) ≡ noEdge n → Lined n
+    go : (b : Bool) → cond b (noBound 6) (boundIs (standsFor c)) ≡ noBound n → Lined n
     go true h = let e : 6 ≡ n = cc in (omega arith, omega arith)
     go false h = edge-no h
 
-bound-of-number : (cs : List ℕ) (n : ℕ) → boundOf cs ≡ noEdge n → Lined n
+bound-of-number : (cs : List ℕ) (n : ℕ) → boundOf cs ≡ noBound n → Lined n
 unfolding boundOf
 bound-of-number cs n h = bound-number (numeral 16 0xFFFF (strip0x cs)) n h
 
-edges-number : (a b : Edge) (names : List (List ℕ)) (n : ℕ) → ((m : ℕ) → a ≡ noEdge m → Lined m) → ((m : ℕ) → b ≡ noEdge m → Lined m)
-    → fromEdges a b names ≡ wrong n → Lined n
-edges-number (noEdge m) b names n f g h = let e : m ≡ n = cc in subst Lined e (f m refl)
-edges-number (edge v) (noEdge m) names n f g h = let e : m ≡ n = cc in subst Lined e (g m refl)
-edges-number (edge v) (edge w) names n f g h = found-wrong h
+edges-number : (a b : BoundFound) (names : List (List ℕ)) (n : ℕ) → ((m : ℕ) → a ≡ noBound m → Lined m) → ((m : ℕ) → b ≡ noBound m → Lined m)
+    → fromBounds a b names ≡ wrong n → Lined n
+edges-number (noBound m) b names n f g h = let e : m ≡ n = cc in subst Lined e (f m refl)
+edges-number (boundIs v) (noBound m) names n f g h = let e : m ≡ n = cc in subst Lined e (g m refl)
+edges-number (boundIs v) (boundIs w) names n f g h = found-wrong h
 
 parts-number : (ps names : List (List ℕ)) (n : ℕ) → fromParts ps names ≡ wrong n → Lined n
 unfolding fromParts

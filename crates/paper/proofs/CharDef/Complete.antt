@@ -10,11 +10,11 @@ use mathlib.Core.List.{List, [], _∷_, _++_, append-assoc, append-nil}
 use lib.Dec.{T, leb, ltb, eqb, eqb→eq, lit≤}
 use mir.Facts.{and-yes, yes-and, T-not, not-T, leb-yes, ltb-yes, yes-ltb, yes-leb}
 use borrow.Author.Tests.{ne-eqb}
-use Rattle.paper.specs.Lists.{empty, all, full, edge, words, until, trimStart, trimEnd}
+use Rattle.paper.specs.Lists.{empty, all, full, nothingOr, words, until, trimStart, trimEnd}
 use Rattle.paper.specs.Text.Scalar.{between, isWhite, isSep}
 use Rattle.paper.specs.CharDef.Line.{Line, blank, category, range, isHash, isNameChar, isFieldChar, comment, begins0x, beginsWhite, zeroXs, Bound, Bounds, one, two, Names, BlankLine, RangeLine, CategoryLine, LineFits}
 use Rattle.paper.specs.Numbers.Numeral.{isDigit, plus, Numeral, dropPlus, numeral}
-use Rattle.paper.specs.CharDef.Read.{found, Edge, strip0x, parts, boundOf, fromParts, rangeOf, categoryOf, body, bodyLine, lineOf}
+use Rattle.paper.specs.CharDef.Read.{found, BoundFound, strip0x, parts, boundOf, fromParts, rangeOf, categoryOf, body, bodyLine, lineOf}
 use Rattle.paper.proofs.Lists.Facts.{T→true, T→false, apart, from-below, all-append, full-all, all-imp, full-imp, un, until-append, trimStart-append, trimEnd-append, words-word, words-run}
 use Rattle.paper.specs.CharDef.Line as line
 use Rattle.paper.specs.CharDef.Read as read
@@ -155,7 +155,7 @@ bound-chars q q0 qx q+ f b =
     rw (b .whole)
     (append-full q (zeroXs (b .times)) (b .numeral) (zeroXs-chars q q0 qx (b .times)) (numeral-chars 16 0xFFFF le16 q q+ f (b .number)))
 
-bound-read : {least : ℕ} {cs : List ℕ} {v : ℕ} → Bound least cs v → boundOf cs ≡ Edge.edge v
+bound-read : {least : ℕ} {cs : List ℕ} {v : ℕ} → Bound least cs v → boundOf cs ≡ BoundFound.boundIs v
 unfolding boundOf
 bound-read b =
     rw (
@@ -224,24 +224,24 @@ bounds-0x s (two l r w a b) = rw (w, append-assoc) (bound-0x ((46 ∷ 46 ∷ r) 
 
 -- ---- names
 
-edge-append : (p : ℕ → Bool) (w r : List ℕ) → T (full p w) → T (edge p (w ++ r))
+edge-append : (p : ℕ → Bool) (w r : List ℕ) → T (full p w) → T (nothingOr p (w ++ r))
 edge-append p [] r a = absurd a
 edge-append p (c ∷ w) r a = and-yes (p c) (all p w) a .0
 
-names-edge : {cs : List ℕ} {ns : List (List ℕ)} → Names cs ns → T (edge isWhite cs)
-names-edge (line.none e) = rw e tt
-names-edge (line.more {name = n} w r e fw fn t) = rw e (edge-append isWhite w (n ++ r) fw)
+names-edge : {cs : List ℕ} {ns : List (List ℕ)} → Names cs ns → T (nothingOr isWhite cs)
+names-edge (line.no-names e) = rw e tt
+names-edge (line.more-names {name = n} w r e fw fn t) = rw e (edge-append isWhite w (n ++ r) fw)
 
 names-no-hash : {cs : List ℕ} {ns : List (List ℕ)} → Names cs ns → T (all (un isHash) cs)
-names-no-hash (line.none e) = rw e tt
-names-no-hash (line.more {name = n} w r e fw fn t) =
+names-no-hash (line.no-names e) = rw e tt
+names-no-hash (line.more-names {name = n} w r e fw fn t) =
     rw e
     (all-append (un isHash) w (n ++ r) (all-imp isWhite (un isHash) white-no-hash w (full-all isWhite w fw))
     (all-append (un isHash) n r (all-imp isNameChar (un isHash) name-no-hash n (full-all isNameChar n fn)) (names-no-hash t)))
 
 names-words : {cs : List ℕ} {ns : List (List ℕ)} → Names cs ns → words isWhite cs ≡ ns
-names-words (line.none e) = rw e
-names-words (line.more {name = n} w r e fw fn t) =
+names-words (line.no-names e) = rw e
+names-words (line.more-names {name = n} w r e fw fn t) =
     ap (words isWhite) e
     ∙ words-run isWhite w (n ++ r) (full-all isWhite w fw)
     ∙ words-word isWhite n r (full-imp isNameChar (un isWhite) name-no-white n fn) (names-edge t)
@@ -250,8 +250,8 @@ names-words (line.more {name = n} w r e fw fn t) =
 -- white space behind a field and its names goes, and nothing else
 names-trim : (front f after : List ℕ) → T (full (un isWhite) f) → T (all isWhite after) → {cs : List ℕ} {ns : List (List ℕ)}
     → Names cs ns → trimEnd isWhite (front ++ (f ++ (cs ++ after))) ≡ front ++ (f ++ cs)
-names-trim front f after s a (line.none e) = rw e (trimEnd-append isWhite front f after s a ∙ ap (λ l. front ++ l) (sym (append-nil f)))
-names-trim front f after s a (line.more {name = n} w r e fw fn t) =
+names-trim front f after s a (line.no-names e) = rw e (trimEnd-append isWhite front f after s a ∙ ap (λ l. front ++ l) (sym (append-nil f)))
+names-trim front f after s a (line.more-names {name = n} w r e fw fn t) =
     let regroup : front ++ (f ++ (w ++ (n ++ r) ++ after)) ≡ front ++ (f ++ w) ++ (n ++ (r ++ after)) = simp append-assoc in
     rw e
     (ap (trimEnd isWhite) regroup
@@ -262,7 +262,7 @@ names-trim front f after s a (line.more {name = n} w r e fw fn t) =
 
 -- the body is what stands between white space, before the comment
 body-of : (before core after rest : List ℕ) → T (all isWhite before) → T (all (un isHash) core) → T (all isWhite after) → T (comment rest)
-    → T (edge (un isWhite) (core ++ after)) → trimEnd isWhite (core ++ after) ≡ core
+    → T (nothingOr (un isWhite) (core ++ after)) → trimEnd isWhite (core ++ after) ≡ core
     → body (before ++ (core ++ (after ++ rest))) ≡ core
 unfolding body
 body-of before core after rest wb nh wa cm op trimmed =
@@ -296,7 +296,7 @@ blank-complete : {cs : List ℕ} → BlankLine cs → lineOf cs ≡ found blank
 unfolding lineOf
 blank-complete l = rw (l .whole, body-blank (l .white) (l .rest) (l .isWhites) (l .isComment))
 
-full-edge : (p : ℕ → Bool) (s t : List ℕ) → T (full p s) → T (edge p (s ++ t))
+full-edge : (p : ℕ → Bool) (s t : List ℕ) → T (full p s) → T (nothingOr p (s ++ t))
 full-edge = edge-append
 
 range-complete : {cs : List ℕ} {lower upper : ℕ} {names : List (List ℕ)} → RangeLine cs lower upper names
@@ -359,7 +359,7 @@ no-hash-sep s f = all-imp isSep (un isHash) sep-no-hash s (full-all isSep s f)
 no-sep : (s : List ℕ) → T (full isFieldChar s) → T (full (un isSep) s)
 no-sep s f = full-imp isFieldChar (un isSep) field-no-sep s f
 
-opens : (s t : List ℕ) → T (full isFieldChar s) → T (not (beginsWhite s)) → T (edge (un isWhite) (s ++ t))
+opens : (s t : List ℕ) → T (full isFieldChar s) → T (not (beginsWhite s)) → T (nothingOr (un isWhite) (s ++ t))
 opens [] t f o = absurd f
 opens (c ∷ s) t f o = o
 
@@ -368,7 +368,7 @@ not-empty [] t f = absurd f
 not-empty (c ∷ s) t f = tt
 
 -- a separator and a field
-gap-word : (gap f r : List ℕ) → T (full isSep gap) → T (full isFieldChar f) → T (edge isSep r) → words isSep (gap ++ (f ++ r)) ≡ f ∷ words isSep r
+gap-word : (gap f r : List ℕ) → T (full isSep gap) → T (full isFieldChar f) → T (nothingOr isSep r) → words isSep (gap ++ (f ++ r)) ≡ f ∷ words isSep r
 gap-word gap f r g h e = words-run isSep gap (f ++ r) (full-all isSep gap g) ∙ words-word isSep f r (no-sep f h) e
 
 module _ {cs name : List ℕ} {invoke group : Bool} {len : ℕ} (l : CategoryLine cs name invoke group len) where
@@ -409,7 +409,7 @@ module _ {cs name : List ℕ} {invoke group : Bool} {len : ℕ} (l : CategoryLin
       (all-append (un isHash) (l .field₂) _ (no-hash-field (l .field₂) f₂)
       (all-append (un isHash) (l .gap₃) _ (no-hash-sep (l .gap₃) (l .sep₃)) (no-hash-field (l .field₃) f₃))))))
 
-  core-opens : T (edge (un isWhite) (core ++ l .after))
+  core-opens : T (nothingOr (un isWhite) (core ++ l .after))
   unfolding core
   core-opens = rw append-assoc (opens name _ (l .nameChars) (l .nameOpens))
 

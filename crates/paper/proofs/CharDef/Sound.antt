@@ -10,11 +10,11 @@ use mathlib.Core.List.{List, [], _∷_, _++_, append-assoc, append-nil}
 use lib.Dec.{T, leb, eqb, eqb→eq}
 use mir.Facts.{and-yes, yes-and, or-yes, T-not, not-T, leb-yes}
 use borrow.Author.Tests.{eqb-false}
-use Rattle.paper.specs.Lists.{empty, all, full, edge, select, push, cut, words, until, trimStart, trimEnd}
+use Rattle.paper.specs.Lists.{empty, all, full, nothingOr, select, push, cut, words, until, trimStart, trimEnd}
 use Rattle.paper.specs.Text.Scalar.{isWhite, isSep}
 use Rattle.paper.specs.CharDef.Line.{Line, blank, category, range, isHash, isNameChar, isFieldChar, comment, begins0x, beginsWhite, zeroXs, standsFor, Bound, Bounds, one, two, Names, LineFits}
 use Rattle.paper.specs.Numbers.Numeral.{isDigit, valueAfter, Numeral, spelledBy, numeral}
-use Rattle.paper.specs.CharDef.Read.{found, wrong, Edge, noEdge, strip0x, parts, checkedBound, boundOf, fromEdges, fromParts, rangeOf, fromNumbers, categoryOf, body, bodyLine, lineOf}
+use Rattle.paper.specs.CharDef.Read.{found, wrong, BoundFound, noBound, strip0x, parts, checkedBound, boundOf, fromBounds, fromParts, rangeOf, fromNumbers, categoryOf, body, bodyLine, lineOf}
 use Rattle.paper.proofs.Lists.Facts.{true→T, apart, all-append, all-imp, un}
 use Rattle.paper.specs.CharDef.Line as line
 
@@ -25,21 +25,21 @@ false→T false e = tt
 -- ---- what the steps leave
 
 module _ {A : Type 0} (p : A → Bool) where
-  until-rest : (cs : List A) → (rest : List A) × (cs ≡ until p cs ++ rest) × T (edge p rest) × T (all (un p) (until p cs))
+  until-rest : (cs : List A) → (rest : List A) × (cs ≡ until p cs ++ rest) × T (nothingOr p rest) × T (all (un p) (until p cs))
   until-rest [] = ([], refl, tt, tt)
   until-rest (x ∷ cs) = step (p x) refl (until-rest cs)
     where
-      step : (b : Bool) → p x ≡ b → (rest : List A) × (cs ≡ until p cs ++ rest) × T (edge p rest) × T (all (un p) (until p cs))
-          → (rest : List A) × (x ∷ cs ≡ cond b [] (x ∷ until p cs) ++ rest) × T (edge p rest) × T (all (un p) (cond b [] (x ∷ until p cs)))
+      step : (b : Bool) → p x ≡ b → (rest : List A) × (cs ≡ until p cs ++ rest) × T (nothingOr p rest) × T (all (un p) (until p cs))
+          → (rest : List A) × (x ∷ cs ≡ cond b [] (x ∷ until p cs) ++ rest) × T (nothingOr p rest) × T (all (un p) (cond b [] (x ∷ until p cs)))
       step true e (r, h, t, a) = (x ∷ cs, refl, true→T (p x) e, tt)
       step false e (r, h, t, a) = (r, ap (λ l. x ∷ l) h, t, yes-and (un p x) (all (un p) (until p cs)) (false→T (p x) e) a)
 
-  trimStart-rest : (cs : List A) → (w : List A) × (cs ≡ w ++ trimStart p cs) × T (all p w) × T (edge (un p) (trimStart p cs))
+  trimStart-rest : (cs : List A) → (w : List A) × (cs ≡ w ++ trimStart p cs) × T (all p w) × T (nothingOr (un p) (trimStart p cs))
   trimStart-rest [] = ([], refl, tt, tt)
   trimStart-rest (x ∷ cs) = step (p x) refl (trimStart-rest cs)
     where
-      step : (b : Bool) → p x ≡ b → (w : List A) × (cs ≡ w ++ trimStart p cs) × T (all p w) × T (edge (un p) (trimStart p cs))
-          → (w : List A) × (x ∷ cs ≡ w ++ cond b (trimStart p cs) (x ∷ cs)) × T (all p w) × T (edge (un p) (cond b (trimStart p cs) (x ∷ cs)))
+      step : (b : Bool) → p x ≡ b → (w : List A) × (cs ≡ w ++ trimStart p cs) × T (all p w) × T (nothingOr (un p) (trimStart p cs))
+          → (w : List A) × (x ∷ cs ≡ w ++ cond b (trimStart p cs) (x ∷ cs)) × T (all p w) × T (nothingOr (un p) (cond b (trimStart p cs) (x ∷ cs)))
       step true e (w, h, a, t) = (x ∷ w, ap (λ l. x ∷ l) h, yes-and (p x) (all p w) (true→T (p x) e) a, t)
       step false e (w, h, a, t) = ([], refl, tt, false→T (p x) e)
 
@@ -61,7 +61,7 @@ pub data Pieces (p : ℕ → Bool) : List ℕ → List (List ℕ) → Type 0 whe
 -- words, with runs before, between and behind them
 pub data Spread (p : ℕ → Bool) : List ℕ → List (List ℕ) → Type 0 where
   run : {cs : List ℕ} → T (all p cs) → Spread p cs []
-  word : {cs f : List ℕ} {fs : List (List ℕ)} (w r : List ℕ) → cs ≡ w ++ (f ++ r) → T (all p w) → T (full (un p) f) → T (edge p r) → Spread p r fs → Spread p cs (f ∷ fs)
+  word : {cs f : List ℕ} {fs : List (List ℕ)} (w r : List ℕ) → cs ≡ w ++ (f ++ r) → T (all p w) → T (full (un p) f) → T (nothingOr p r) → Spread p r fs → Spread p cs (f ∷ fs)
 
 module _ (p : ℕ → Bool) where
   push-pieces : (x : ℕ) → T (un p x) → {cs : List ℕ} {ls : List (List ℕ)} → Pieces p cs ls → Pieces p (x ∷ cs) (push x ls)
@@ -100,7 +100,7 @@ none-some e = zero-one (cc)
 wrong-found {ℓ} : {X : Type ℓ} {n : ℕ} {l : Line} → wrong n ≡ found l → X
 wrong-found e = zero-one (cc)
 
-noEdge-edge {ℓ} : {X : Type ℓ} {n v : ℕ} → noEdge n ≡ Edge.edge v → X
+noEdge-edge {ℓ} : {X : Type ℓ} {n v : ℕ} → noBound n ≡ BoundFound.boundIs v → X
 noEdge-edge e = zero-one (cc)
 
 module _ (base limit : ℕ) where
@@ -149,7 +149,7 @@ strip-rest (c ∷ d ∷ cs) = step (eqb c 48 && eqb d 120) refl (strip-rest cs)
         (suc k, cc, λ u. suc-le-suc zero-le)
     step false e (k, h, f) = (0, refl, λ t. absurd t)
 
-bound-sound : (least : ℕ) (cs : List ℕ) (v : ℕ) → boundOf cs ≡ Edge.edge v
+bound-sound : (least : ℕ) (cs : List ℕ) (v : ℕ) → boundOf cs ≡ BoundFound.boundIs v
     → ((k : ℕ) → (T (begins0x cs) → 1 ≤ k) → least ≤ k) → Bound least cs v
 unfolding boundOf
 bound-sound least cs v h m = go (numeral 16 0xFFFF (strip0x cs)) refl h
@@ -158,7 +158,7 @@ bound-sound least cs v h m = go (numeral 16 0xFFFF (strip0x cs)) refl h
     s = strip-rest cs
 
     some-case : (c : ℕ) → numeral 16 0xFFFF (strip0x cs) ≡ some c → (x y : Bool) → eqb c 0xFEFF ≡ x → eqb c 0xFFFE ≡ y
-        → cond (x || y) (noEdge 6) (Edge.edge (standsFor c)) ≡ Edge.edge v → Bound least cs v
+        → cond (x || y) (noBound 6) (BoundFound.boundIs (standsFor c)) ≡ BoundFound.boundIs v → Bound least cs v
     some-case c n true y ex ey h = noEdge-edge h
     some-case c n false true ex ey h = noEdge-edge h
     some-case c n false false ex ey h =
@@ -174,7 +174,7 @@ bound-sound least cs v h m = go (numeral 16 0xFFFF (strip0x cs)) refl h
           says = cc;
         }
 
-    go : (o : Option ℕ) → numeral 16 0xFFFF (strip0x cs) ≡ o → checkedBound o ≡ Edge.edge v → Bound least cs v
+    go : (o : Option ℕ) → numeral 16 0xFFFF (strip0x cs) ≡ o → checkedBound o ≡ BoundFound.boundIs v → Bound least cs v
     go none n h = noEdge-edge h
     go (some c) n h = some-case c n (eqb c 0xFEFF) (eqb c 0xFFFE) refl refl h
 
@@ -202,11 +202,11 @@ parts-dotted (c ∷ d ∷ cs) = step (eqb c 46 && eqb d 46) refl (parts-dotted c
     step false e q r = push-dotted c r
 
 -- both bounds were read
-edges : (x y : Edge) (names : List (List ℕ)) (l : Line) → fromEdges x y names ≡ found l
-    → (lo hi : ℕ) × (x ≡ Edge.edge lo) × (y ≡ Edge.edge hi) × (l ≡ range lo hi names)
-edges (noEdge n) y names l h = wrong-found h
-edges (Edge.edge lo) (noEdge n) names l h = wrong-found h
-edges (Edge.edge lo) (Edge.edge hi) names l h = (lo, hi, refl, refl, cc)
+edges : (x y : BoundFound) (names : List (List ℕ)) (l : Line) → fromBounds x y names ≡ found l
+    → (lo hi : ℕ) × (x ≡ BoundFound.boundIs lo) × (y ≡ BoundFound.boundIs hi) × (l ≡ range lo hi names)
+edges (noBound n) y names l h = wrong-found h
+edges (BoundFound.boundIs lo) (noBound n) names l h = wrong-found h
+edges (BoundFound.boundIs lo) (BoundFound.boundIs hi) names l h = (lo, hi, refl, refl, cc)
 
 dots-0x : (a r : List ℕ) → T (begins0x (a ++ (46 ∷ 46 ∷ r))) → T (begins0x a)
 dots-0x [] r t = t
@@ -239,13 +239,13 @@ all-right p [] t a = a
 all-right p (x ∷ s) t a = all-right p s t (and-yes (p x) (all p (s ++ t)) a .1)
 
 -- a run between a place that begins with a separator and a word is not empty
-gap-full : (p : ℕ → Bool) (w f r : List ℕ) → T (edge p (w ++ (f ++ r))) → T (full (un p) f) → T (all p w) → T (full p w)
+gap-full : (p : ℕ → Bool) (w f r : List ℕ) → T (nothingOr p (w ++ (f ++ r))) → T (full (un p) f) → T (all p w) → T (full p w)
 gap-full p [] [] r g h a = absurd h
 gap-full p [] (c ∷ f) r g h a = clash (p c) g (and-yes (un p c) (all (un p) f) h .0)
 gap-full p (c ∷ w) f r g h a = a
 
 -- a run where a text opens with no such character is empty
-gap-none : (p q : ℕ → Bool) → ((c : ℕ) → T (p c) → T (q c)) → (w s : List ℕ) → T (edge (un q) (w ++ s)) → T (all p w) → w ≡ []
+gap-none : (p q : ℕ → Bool) → ((c : ℕ) → T (p c) → T (q c)) → (w s : List ℕ) → T (nothingOr (un q) (w ++ s)) → T (all p w) → w ≡ []
 gap-none p q f [] s g a = refl
 gap-none p q f (c ∷ w) s g a = clash (q c) (f c (and-yes (p c) (all p w) a .0)) g
 
@@ -287,19 +287,19 @@ sep-white c t = go (or-yes (eqb c 9 || eqb c 12 || eqb c 13) (eqb c 32) t)
     go (inl e) = go₁ (or-yes (eqb c 9 || eqb c 12) (eqb c 13) e)
     go (inr e) = at 32 tt e
 
-names-sound : {r : List ℕ} {fs : List (List ℕ)} → Spread isWhite r fs → T (edge isWhite r) → T (all (un isHash) r)
+names-sound : {r : List ℕ} {fs : List (List ℕ)} → Spread isWhite r fs → T (nothingOr isWhite r) → T (all (un isHash) r)
     → (named after : List ℕ) × (r ≡ named ++ after) × Names named fs × T (all isWhite after)
-names-sound {r} (run a) g h = ([], r, refl, line.none refl, a)
+names-sound {r} (run a) g h = ([], r, refl, line.no-names refl, a)
 names-sound {r} (word {f = f} w s e a n k q) g h =
     let h′ : T (all (un isHash) (w ++ (f ++ s))) = subst (λ x. T (all (un isHash) x)) e h in
-    let g′ : T (edge isWhite (w ++ (f ++ s))) = subst (λ x. T (edge isWhite x)) e g in
+    let g′ : T (nothingOr isWhite (w ++ (f ++ s))) = subst (λ x. T (nothingOr isWhite x)) e g in
     let fs-hash : T (all (un isHash) (f ++ s)) = all-right (un isHash) w (f ++ s) h′ in
     let (named, after, e′, ns, wa) = names-sound q k (all-right (un isHash) f s fs-hash) in
     let regroup : w ++ (f ++ (named ++ after)) ≡ w ++ (f ++ named) ++ after = simp append-assoc in (
       w ++ (f ++ named),
       after,
       e ∙ ap (λ x. w ++ (f ++ x)) e′ ∙ regroup,
-      line.more w named refl (gap-full isWhite w f s g′ n a) (both-full (un isWhite) (un isHash) isNameChar name-char f n (all-left (un isHash) f s fs-hash)) ns,
+      line.more-names w named refl (gap-full isWhite w f s g′ n a) (both-full (un isWhite) (un isHash) isNameChar name-char f n (all-left (un isHash) f s fs-hash)) ns,
       wa,
     )
 
@@ -312,12 +312,12 @@ pub record Around (cs core : List ℕ) : Type 0 where
   pub rest : List ℕ
   pub whole : cs ≡ before ++ (core ++ (after ++ rest))
   pub whiteBefore : T (all isWhite before)
-  pub opens : T (edge (un isWhite) core)
+  pub opens : T (nothingOr (un isWhite) core)
   pub no-hash : T (all (un isHash) core)
   pub whiteAfter : T (all isWhite after)
   pub isComment : T (comment rest)
 
-edge-left : (p : ℕ → Bool) (s t : List ℕ) → T (edge p (s ++ t)) → T (edge p s)
+edge-left : (p : ℕ → Bool) (s t : List ℕ) → T (nothingOr p (s ++ t)) → T (nothingOr p s)
 edge-left p [] t g = tt
 edge-left p (c ∷ s) t g = g
 
@@ -337,7 +337,7 @@ body-around cs =
       rest = r;
       whole = e ∙ ap (λ x. x ++ r) (e₁ ∙ ap (λ x. w ++ x) e₂) ∙ regroup;
       whiteBefore = wb;
-      opens = edge-left (un isWhite) b v (subst (λ x. T (edge (un isWhite) x)) e₂ op);
+      opens = edge-left (un isWhite) b v (subst (λ x. T (nothingOr (un isWhite) x)) e₂ op);
       no-hash = all-left (un isHash) b v (subst (λ x. T (all (un isHash) x)) e₂ (all-right (un isHash) w s (subst (λ x. T (all (un isHash) x)) e₁ nh)));
       whiteAfter = wa;
       isComment = cm;
@@ -357,7 +357,7 @@ white-no-x : (c : ℕ) → T (isWhite c) → T (not (eqb c 120))
 unfolding isWhite
 white-no-x = apart isWhite 120 refl
 
-word-0x : (f r : List ℕ) → T (full (un isWhite) f) → T (edge isWhite r) → T (begins0x (f ++ r)) → T (begins0x f)
+word-0x : (f r : List ℕ) → T (full (un isWhite) f) → T (nothingOr isWhite r) → T (begins0x (f ++ r)) → T (begins0x f)
 word-0x [] r a g t = absurd a
 word-0x (c ∷ []) [] a g t = t
 word-0x (c ∷ []) (d ∷ r) a g t = clash (eqb d 120) (and-yes (eqb c 48) (eqb d 120) t .1) (white-no-x d g)
@@ -368,7 +368,7 @@ range-sound : (cs core : List ℕ) (l : Line) → Around cs core → T (begins0x
 unfolding rangeOf
 range-sound cs core l a z (run q) h = wrong-found h
 range-sound cs core l a z (word {f = f} {fs = fs} w r e aw n k q) h =
-    let w0 : w ≡ [] = gap-none isWhite isWhite (λ c t. t) w (f ++ r) (subst (λ x. T (edge (un isWhite) x)) e (a .opens)) aw in
+    let w0 : w ≡ [] = gap-none isWhite isWhite (λ c t. t) w (f ++ r) (subst (λ x. T (nothingOr (un isWhite) x)) e (a .opens)) aw in
     let e0 : core ≡ f ++ r = e ∙ ap (λ x. x ++ (f ++ r)) w0 in
     let z0 : T (begins0x f) = word-0x f r n k (subst (λ x. T (begins0x x)) e0 z) in
     let nh : T (all (un isHash) r) = all-right (un isHash) f r (subst (λ x. T (all (un isHash) x)) e0 (a .no-hash)) in
@@ -403,7 +403,7 @@ begins-left [] t z = absurd z
 begins-left (c ∷ []) t z = absurd z
 begins-left (c ∷ d ∷ s) t z = z
 
-opens-name : (s t : List ℕ) → T (full (un isSep) s) → T (edge (un isWhite) (s ++ t)) → T (not (beginsWhite s))
+opens-name : (s t : List ℕ) → T (full (un isSep) s) → T (nothingOr (un isWhite) (s ++ t)) → T (not (beginsWhite s))
 opens-name [] t a g = absurd a
 opens-name (c ∷ s) t a g = g
 
@@ -415,7 +415,7 @@ category-sound cs core l a z (word w r e aw n k (run q)) h = wrong-found h
 category-sound cs core l a z (word w r e aw n k (word w₁ r₁ e₁ aw₁ n₁ k₁ (run q))) h = wrong-found h
 category-sound cs core l a z (word w r e aw n k (word w₁ r₁ e₁ aw₁ n₁ k₁ (word w₂ r₂ e₂ aw₂ n₂ k₂ (run q)))) h = wrong-found h
 category-sound cs core l a z (word {f = f} w r e aw n k (word {f = f₁} w₁ r₁ e₁ aw₁ n₁ k₁ (word {f = f₂} w₂ r₂ e₂ aw₂ n₂ k₂ (word {f = f₃} w₃ r₃ e₃ aw₃ n₃ k₃ (run q))))) h =
-    let w0 : w ≡ [] = gap-none isSep isWhite sep-white w (f ++ r) (subst (λ x. T (edge (un isWhite) x)) e (a .opens)) aw in
+    let w0 : w ≡ [] = gap-none isSep isWhite sep-white w (f ++ r) (subst (λ x. T (nothingOr (un isWhite) x)) e (a .opens)) aw in
     let e0 : core ≡ f ++ r = e ∙ ap (λ x. x ++ (f ++ r)) w0 in
     let (i, g, len, hi, hg, hl, el) = numbers f (numeral 10 0xFFFF_FFFF f₁) (numeral 10 0xFFFF_FFFF f₂) (numeral 10 0xFFFF_FFFF f₃) l h in
     let deep : core ≡ f ++ (w₁ ++ (f₁ ++ (w₂ ++ (f₂ ++ (w₃ ++ (f₃ ++ r₃)))))) =
@@ -436,13 +436,13 @@ category-sound cs core l a z (word {f = f} w r e aw n k (word {f = f₁} w₁ r�
       whole = a .whole ∙ ap (λ x. a .before ++ (x ++ (a .after ++ a .rest))) deep ∙ regroup;
       whiteBefore = a .whiteBefore;
       nameChars = both-full (un isSep) (un isHash) isFieldChar field-char f n (all-left (un isHash) f r (subst (λ x. T (all (un isHash) x)) e0 (a .no-hash)));
-      nameOpens = opens-name f r n (subst (λ x. T (edge (un isWhite) x)) e0 (a .opens));
+      nameOpens = opens-name f r n (subst (λ x. T (nothingOr (un isWhite) x)) e0 (a .opens));
       nameNo0x = not-T (begins0x f) (λ t. T-not (begins0x (f ++ r)) (begins-left f r t) (subst (λ x. T (not (begins0x x))) e0 z));
-      sep₁ = gap-full isSep w₁ f₁ r₁ (subst (λ x. T (edge isSep x)) e₁ k) n₁ aw₁;
+      sep₁ = gap-full isSep w₁ f₁ r₁ (subst (λ x. T (nothingOr isSep x)) e₁ k) n₁ aw₁;
       invokes = record { number = i; spelled = numeral-sound 10 0xFFFF_FFFF f₁ i hi; says = refl };
-      sep₂ = gap-full isSep w₂ f₂ r₂ (subst (λ x. T (edge isSep x)) e₂ k₁) n₂ aw₂;
+      sep₂ = gap-full isSep w₂ f₂ r₂ (subst (λ x. T (nothingOr isSep x)) e₂ k₁) n₂ aw₂;
       groups = record { number = g; spelled = numeral-sound 10 0xFFFF_FFFF f₂ g hg; says = refl };
-      sep₃ = gap-full isSep w₃ f₃ r₃ (subst (λ x. T (edge isSep x)) e₃ k₂) n₃ aw₃;
+      sep₃ = gap-full isSep w₃ f₃ r₃ (subst (λ x. T (nothingOr isSep x)) e₃ k₂) n₃ aw₃;
       lengths = numeral-sound 10 0xFFFF_FFFF f₃ len hl;
       whiteAfter = all-append isWhite r₃ (a .after) (all-imp isSep isWhite sep-white r₃ q) (a .whiteAfter);
       isComment = a .isComment;

@@ -31,19 +31,19 @@ pub data Saying : Type 0 where
   rows-are : List (List String) → Saying
   packed : List ℕ → Saying
 
-unfoldable pub namesOf : Reading → List ℕ → List (List ℕ)
-namesOf r cs = map (λ c. getD (r .names) c []) cs
+unfoldable pub namesBy : Reading → List ℕ → List (List ℕ)
+namesBy r cs = map (λ c. getD (r .names) c []) cs
 
 unfoldable pub Says : Saying → Answer → Type 0
-unfolding namesOf bytesOf categoriesAt boundaries rows packBytes
+unfolding namesBy bytesOf categoriesAt boundaries rows packBytes
 Says (refusal n place) a = a ≡ refused n place
 Says (bounds bs) (accepted r) = map (λ g. (g .lower, g .upper)) (r .ranges) ≡ bs
 Says (bounds bs) (refused n place) = ⊥
-Says (names-at c ns) (accepted r) = namesOf r (categoriesAt r c) ≡ map bytesOf ns
+Says (names-at c ns) (accepted r) = namesBy r (categoriesAt r c) ≡ map bytesOf ns
 Says (names-at c ns) (refused n place) = ⊥
 Says (boundaries-are bs) (accepted r) = boundaries r ≡ bs
 Says (boundaries-are bs) (refused n place) = ⊥
-Says (rows-are rs) (accepted r) = map (namesOf r) (rows r) ≡ map (map bytesOf) rs
+Says (rows-are rs) (accepted r) = map (namesBy r) (rows r) ≡ map (map bytesOf) rs
 Says (rows-are rs) (refused n place) = ⊥
 Says (packed bytes) (accepted r) = packBytes r ≡ bytes
 Says (packed bytes) (refused n place) = ⊥

@@ -21,7 +21,7 @@ pub data UnkSaying : Type 0 where
 unfoldable pub UnkSays : UnkSaying → UnkAnswer → Type 0
 unfolding meaning16
 UnkSays (refusal n place) a = a ≡ refused n place
-UnkSays (words-are ws) (accepted u) = map (λ w. (w .0, w .1, meaning16 (w .2))) (u .words) ≡ ws
+UnkSays (words-are ws) (accepted u) = map (λ w. (w .0, w .1, meaning16 (w .2))) (u .wordEntries) ≡ ws
 UnkSays (words-are ws) (refused n place) = ⊥
 UnkSays (store-is bytes) (accepted u) = u .store ≡ bytes
 UnkSays (store-is bytes) (refused n place) = ⊥

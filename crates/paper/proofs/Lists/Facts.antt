@@ -9,7 +9,7 @@ use mathlib.Core.Bool.{Bool, true, false, not, cond, _&&_}
 use mathlib.Core.List.{List, [], _∷_, _++_}
 use lib.Dec.{T, eqb, eqb→eq}
 use mir.Facts.{and-yes, yes-and, not-T}
-use Rattle.paper.specs.Lists.{empty, all, full, edge, push, cut, words, until, trimStart, trimEnd}
+use Rattle.paper.specs.Lists.{empty, all, full, nothingOr, push, cut, words, until, trimStart, trimEnd}
 
 pub T→true : (b : Bool) → T b → b ≡ true
 T→true true t = refl
@@ -66,7 +66,7 @@ module _ {A : Type 0} (p : A → Bool) where
   un c = not (p c)
 
   -- up to a comment
-  pub until-append : (s r : List A) → T (all un s) → T (edge p r) → until p (s ++ r) ≡ s
+  pub until-append : (s r : List A) → T (all un s) → T (nothingOr p r) → until p (s ++ r) ≡ s
   until-append [] [] a e = refl
   until-append [] (x ∷ r) a e = rw (T→true (p x) e)
   until-append (x ∷ s) r a e =
@@ -74,7 +74,7 @@ module _ {A : Type 0} (p : A → Bool) where
       rw (T→false (p x) (h .0), until-append s r (h .1) e)
 
   -- what stands behind a run
-  pub trimStart-append : (s r : List A) → T (all p s) → T (edge un r) → trimStart p (s ++ r) ≡ r
+  pub trimStart-append : (s r : List A) → T (all p s) → T (nothingOr un r) → trimStart p (s ++ r) ≡ r
   trimStart-append [] [] a e = refl
   trimStart-append [] (x ∷ r) a e = rw (T→false (p x) e)
   trimStart-append (x ∷ s) r a e =
@@ -135,7 +135,7 @@ module _ {A : Type 0} (p : A → Bool) where
   pushAll-first (x ∷ f) ls = rw (pushAll-first f ls)
 
   -- a word and what stands behind it
-  pub words-word : (f r : List A) → T (full (un p) f) → T (edge p r) → words p (f ++ r) ≡ f ∷ words p r
+  pub words-word : (f r : List A) → T (full (un p) f) → T (nothingOr p r) → words p (f ++ r) ≡ f ∷ words p r
   words-word [] r a e = absurd a
   words-word (x ∷ f) [] a e = rw (cut-run (x ∷ f) [] a, pushAll-first (x ∷ f) [])
   words-word (x ∷ f) (y ∷ r) a e =

@@ -9,17 +9,15 @@ use mathlib.Core.List.{List, [], _∷_, _++_, map, append-assoc}
 use lib.Dec.{T, ltb, eqb, eqb→eq}
 use lib.ListN.{length}
 use mir.Facts.{and-yes, yes-and, ltb-yes, yes-ltb}
+use Rattle.paper.specs.Numbers.Bytes.{isByte}
 use Rattle.paper.specs.Lists.{all, joined}
 use Rattle.paper.specs.Pack.Fields.{Field, field, bits, fieldBits, byte, inBytes}
-use Rattle.paper.specs.Pack.Read.{unpackBits, Taken, short, taken, takeNumber, consTaken, afterByte, takeBytes, padded}
+use Rattle.paper.specs.Pack.Read.{unpackBits, Taken, short, taken, takeNumber, consTaken, afterByte, takeBytes, isPadding}
 use Rattle.paper.proofs.Lists.Facts.{all-append}
 use Rattle.paper.proofs.CharDef.Sound.{zero-one, all-left, all-right}
 
 abbrev pub isBit : ℕ → Bool
 isBit b = ltb b 2
-
-abbrev pub isByte : ℕ → Bool
-isByte b = ltb b 256
 
 -- the bits of fields
 abbrev pub spell : List Field → List ℕ
@@ -189,7 +187,7 @@ zeros-are (x ∷ s) t =
     let g = and-yes (eqb 0 x) (all (eqb 0) s) t in
     ap₂ (λ y l. y ∷ l) (sym (eqb→eq 0 x (g .0))) (zeros-are s (g .1))
 
-pub unpack-inBytes : (l : List ℕ) → T (all isBit l) → (pad : List ℕ) × (unpackBits (inBytes l) ≡ l ++ pad) × T (padded pad)
+pub unpack-inBytes : (l : List ℕ) → T (all isBit l) → (pad : List ℕ) × (unpackBits (inBytes l) ≡ l ++ pad) × T (isPadding pad)
 unfolding inBytes
 unpack-inBytes [] t = ([], refl, tt)
 unpack-inBytes (a ∷ []) t = (zeros 7, byte-unpack a 0 0 0 0 0 0 0 t, tt)
@@ -219,12 +217,12 @@ inBytes-bytes (a ∷ b ∷ c ∷ d ∷ e ∷ f ∷ g ∷ h ∷ s) t =
     let first : List ℕ = a ∷ b ∷ c ∷ d ∷ e ∷ f ∷ g ∷ h ∷ [] in
     yes-and (isByte (byte a b c d e f g h)) (all isByte (inBytes s)) (byte-small a b c d e f g h (all-left isBit first s t)) (inBytes-bytes s (all-right isBit first s t))
 
-pad-is : (n : ℕ) (pad : List ℕ) → T (padded pad) → (length pad < 8 → length pad ≡ n) → pad ≡ zeros n
+pad-is : (n : ℕ) (pad : List ℕ) → T (isPadding pad) → (length pad < 8 → length pad ≡ n) → pad ≡ zeros n
 pad-is n pad t f =
     let g = and-yes (ltb (length pad) 8) (all (eqb 0) pad) t in
     zeros-are pad (g .1) ∙ ap zeros (f (ltb-yes (g .0)))
 
-pub inBytes-pad : (l pad : List ℕ) → T (padded pad) → length (l ++ pad) % 8 ≡ 0 → inBytes (l ++ pad) ≡ inBytes l
+pub inBytes-pad : (l pad : List ℕ) → T (isPadding pad) → length (l ++ pad) % 8 ≡ 0 → inBytes (l ++ pad) ≡ inBytes l
 unfolding inBytes
 inBytes-pad [] pad t h = ap inBytes (pad-is 0 pad t (λ k. omega arith))
 inBytes-pad (a ∷ []) pad t h = ap (λ l. inBytes (a ∷ l)) (pad-is 7 pad t (λ k. omega arith))

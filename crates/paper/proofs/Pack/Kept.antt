@@ -10,13 +10,13 @@ use lib.Dec.{T, leb, ltb, eqb, eqb→eq}
 use mir.Facts.{and-yes, yes-and, T-not, not-T, yes-leb, yes-ltb}
 use Rattle.paper.specs.Lists.{all, full, any, joined, freshAfter, firstSeen, same}
 use Rattle.paper.specs.Text.Scalar.{between, isScalar, utf8Of, utf8, WellFormed}
-use Rattle.paper.specs.CharDef.Line.{Line, blank, category, range, standsFor, Bound, Bounds, one, two, Names, none, more, isNameChar, isFieldChar, LineFits}
+use Rattle.paper.specs.CharDef.Line.{Line, blank, category, range, standsFor, Bound, Bounds, one, two, Names, no-names, more-names, isNameChar, isFieldChar, LineFits}
 use Rattle.paper.specs.CharDef.Reading.{Reading, namesOf, definitionsOf, rangesOf, readingOf, Within, joinLF, EachFits, done, next, Fits}
 use Rattle.paper.specs.Text.Decode.{decode}
 use Rattle.paper.specs.CharDef.Read.{readText, accepted}
 use Rattle.paper.specs.Pack.Fields.{packBytes}
 use Rattle.paper.specs.Pack.Read.{readPack}
-use Rattle.paper.specs.Pack.Rules.{isText, formed, some, onceAfter, isBound, bounded, sized, PackRules}
+use Rattle.paper.specs.Pack.Rules.{isText, formed, hasBytes, onceAfter, isBound, bounded, sized, PackRules}
 use Rattle.paper.proofs.Lists.Facts.{all-append, all-imp}
 use Rattle.paper.proofs.CharDef.Sound.{false→T, all-left, all-right}
 use Rattle.paper.proofs.Text.Code.{decode-complete}
@@ -70,32 +70,32 @@ fresh-keeps p before (x ∷ xs) t =
 
 -- ---- names
 
-cond-some : (b : Bool) (k l s : List ℕ) → T (some (k ++ s)) → T (some (l ++ s)) → T (some (cond b k l ++ s))
+cond-some : (b : Bool) (k l s : List ℕ) → T (hasBytes (k ++ s)) → T (hasBytes (l ++ s)) → T (hasBytes (cond b k l ++ s))
 cond-some true k l s t u = t
 cond-some false k l s t u = u
 
-utf8-some : (c : ℕ) (s : List ℕ) → T (some (utf8Of c ++ s))
+utf8-some : (c : ℕ) (s : List ℕ) → T (hasBytes (utf8Of c ++ s))
 unfolding utf8Of
 utf8-some c s = cond-some (leb c 0x7F) _ _ s tt (cond-some (leb c 0x7FF) _ _ s tt (cond-some (leb c 0xFFFF) _ _ s tt tt))
 
 -- a word of the text, as bytes
 good : List ℕ → Bool
-good n = some n && formed n
+good n = hasBytes n && formed n
 
-word-good : (w : List ℕ) → T (some w) → T (all isScalar w) → T (good (utf8 w))
+word-good : (w : List ℕ) → T (hasBytes w) → T (all isScalar w) → T (good (utf8 w))
 unfolding good formed utf8 decode
 word-good [] t a = absurd t
 word-good (c ∷ w) t a =
-    yes-and (some (utf8Of c ++ utf8 w)) (formed (utf8 (c ∷ w))) (utf8-some c (utf8 w))
+    yes-and (hasBytes (utf8Of c ++ utf8 w)) (formed (utf8 (c ∷ w))) (utf8-some c (utf8 w))
     (subst (λ o. T (isText o)) (sym (decode-complete (c ∷ w) 0 a)) tt)
 
-full-some : (p : ℕ → Bool) (w : List ℕ) → T (full p w) → T (some w)
+full-some : (p : ℕ → Bool) (w : List ℕ) → T (full p w) → T (hasBytes w)
 full-some p [] t = t
 full-some p (c ∷ w) t = tt
 
 names-good : {cs : List ℕ} {ns : List (List ℕ)} → Names cs ns → T (all isScalar cs) → T (all good (map utf8 ns))
-names-good (none e) a = tt
-names-good (more {name = n} {names = ns} white rest e w f q) a =
+names-good (no-names e) a = tt
+names-good (more-names {name = n} {names = ns} white rest e w f q) a =
     let b = all-right isScalar white (n ++ rest) (subst (λ l. T (all isScalar l)) e a) in
     yes-and (good (utf8 n)) (all good (map utf8 ns)) (word-good n (full-some isNameChar n f) (all-left isScalar n rest b)) (names-good q (all-right isScalar n rest b))
 
@@ -170,8 +170,8 @@ unfolding readingOf good
 lines-rules css ls each a w =
     let spoken : List (List ℕ) = joined (map namesOf ls) in
     let g : T (all good spoken) = lines-all good namesOf line-names each a in
-    let s : T (all some (firstSeen same spoken)) = fresh-keeps some [] spoken (all-imp good some (λ n t. and-yes (some n) (formed n) t .0) spoken g) in
-    let f : T (all formed (firstSeen same spoken)) = fresh-keeps formed [] spoken (all-imp good formed (λ n t. and-yes (some n) (formed n) t .1) spoken g) in
+    let s : T (all hasBytes (firstSeen same spoken)) = fresh-keeps hasBytes [] spoken (all-imp good hasBytes (λ n t. and-yes (hasBytes n) (formed n) t .0) spoken g) in
+    let f : T (all formed (firstSeen same spoken)) = fresh-keeps formed [] spoken (all-imp good formed (λ n t. and-yes (hasBytes n) (formed n) t .1) spoken g) in
     record {
       limits = w;
       names-some = s;

@@ -16,7 +16,7 @@ use Rattle.paper.specs.Lists.{all}
 use Rattle.paper.specs.Text.Scalar.{WellFormed, nothing}
 use Rattle.paper.specs.CharDef.Reading.{Reading, nameBytes, references, Within}
 use Rattle.paper.specs.Text.Decode.{First, bad, good, first, Text, broken, chars, consText, onward, decodeFrom, decode}
-use Rattle.paper.specs.Pack.Rules.{numbered, Each, PackRules, bounded, formed, isText, keepsRules, once, sized, some, within}
+use Rattle.paper.specs.Pack.Rules.{numbered, Each, PackRules, bounded, formed, isText, keepsRules, once, sized, hasBytes, within}
 use Rattle.paper.proofs.Text.Code.{broken-chars}
 use Rattle.paper.proofs.Text.Prefix.{Shaped, first-shapes, prefix-longest}
 
@@ -108,7 +108,7 @@ pub rules-kept : (r : Reading) → T (keepsRules r) → PackRules r
 unfolding keepsRules
 rules-kept r t =
     let a = and-yes (within r) _ t in
-    let b = and-yes (all some (r .names)) _ (a .1) in
+    let b = and-yes (all hasBytes (r .names)) _ (a .1) in
     let c = and-yes (all formed (r .names)) _ (b .1) in
     let d = and-yes (once (r .names)) _ (c .1) in
     let e = and-yes (all sized (r .definitions)) _ (d .1) in
@@ -128,7 +128,7 @@ pub kept-rules : (r : Reading) → PackRules r → T (keepsRules r)
 unfolding keepsRules
 kept-rules r k =
     yes-and (within r) _ (is-within r (k .limits))
-    (yes-and (all some (r .names)) _ (k .names-some)
+    (yes-and (all hasBytes (r .names)) _ (k .names-some)
     (yes-and (all formed (r .names)) _ (each-all WellFormed formed is-formed (r .names) (k .names-formed))
     (yes-and (once (r .names)) _ (k .names-once)
     (yes-and (all sized (r .definitions)) _ (k .lengths)

@@ -16,39 +16,40 @@ use Rattle.paper.specs.Text.Scalar.{In, WellFormed, nothing, utf8-1, utf
 use Rattle.paper.specs.CharDef.Reading.{Definition, Range, Reading, nameBytes, references, Within}
 use Rattle.paper.specs.CharDef.Read.{accepted}
 use Rattle.paper.specs.Pack.Fields.{Field, flag, field, nameFields, definitionFields, rangeFields, packFields, bits, packBits, inBytes, packBytes}
-use Rattle.paper.specs.Pack.Rules.{numbered, formed, some, onceAfter, isBound, bounded, sized, PackRules}
-use Rattle.paper.specs.Pack.Read.{unpackBits, Taken, short, taken, takeNumber, takeBytes, Got, got, broke, Reader, afterGot, _>>=_, give, settle, fieldOr, number, free, bytesField, demand, padded, padding, many, lengthRule, nameRule, readName, readNames, readDefinition, countRule, readRange, readRanges, upTo, readBody, readCounted, readFields, readAll, answer, readPack}
+use Rattle.paper.specs.Pack.Rules.{numbered, formed, hasBytes, onceAfter, isBound, bounded, sized, PackRules}
+use Rattle.paper.specs.Pack.Read.{unpackBits, Taken, short, taken, takeNumber, takeBytes, Outcome, gave, broke, Reader, afterOutcome, _▹_, give, settle, fieldOr, number, free, bytesField, demand, isPadding, padding, many, lengthRule, nameRule, readName, readNames, readDefinition, countRule, readRange, readRanges, upTo, readBody, readCounted, readFields, readAll, answer, readPack}
 use Rattle.paper.proofs.Lists.Facts.{T→true, true→T}
 use Rattle.paper.proofs.CharDef.Sound.{zero-one}
 use Rattle.paper.proofs.Pack.Size.{bits-length, fields-length, width-map, pack-length}
 use Rattle.paper.proofs.CharDef.Whole.{refused-accepted}
 use Rattle.paper.proofs.Pack.Rules.{formed-is, is-formed, each-all, all-each}
-use Rattle.paper.proofs.Pack.Bits.{isBit, isByte, spell, spell-append, spell-bits, unpack-bits, number-taken, taken-number, bytes-taken, taken-bytes, inBytes-unpack, unpack-inBytes, inBytes-pad, inBytes-bytes, unpack-length}
+use Rattle.paper.proofs.Pack.Bits.{isBit, spell, spell-append, spell-bits, unpack-bits, number-taken, taken-number, bytes-taken, taken-bytes, inBytes-unpack, unpack-inBytes, inBytes-pad, inBytes-bytes, unpack-length}
+use Rattle.paper.specs.Numbers.Bytes.{isByte}
 
 -- ---- a reader reads a value from its bits, whatever follows
 
 pub record Reads {A : Type 0} (p : Reader A) (a : A) (f : List ℕ) : Type 0 where
-  pub reads : (at : ℕ) (s : List ℕ) → p at (f ++ s) ≡ got a (at + length f) s
+  pub reads : (at : ℕ) (s : List ℕ) → p at (f ++ s) ≡ gave a (at + length f) s
 
-reads-bind : {A B : Type 0} {p : Reader A} (k : A → Reader B) {a : A} {b : B} {f g : List ℕ} → Reads p a f → Reads (k a) b g → Reads (p >>= k) b (f ++ g)
-unfolding _>>=_
+reads-bind : {A B : Type 0} {p : Reader A} (k : A → Reader B) {a : A} {b : B} {f g : List ℕ} → Reads p a f → Reads (k a) b g → Reads (p ▹ k) b (f ++ g)
+unfolding _▹_
 reads-bind {p} k {a} {b} {f} {g} rp rk =
     record {
       reads = λ at s.
           let e : at + length f + length g ≡ at + length (f ++ g) = omega (arith, length-append f g) in
-          ap (λ l. afterGot (p at l) k) (append-assoc f g s) ∙ ap (λ o. afterGot o k) (rp .reads at (g ++ s))
-          ∙ rk .reads (at + length f) s ∙ ap (λ m. got b m s) e;
+          ap (λ l. afterOutcome (p at l) k) (append-assoc f g s) ∙ ap (λ o. afterOutcome o k) (rp .reads at (g ++ s))
+          ∙ rk .reads (at + length f) s ∙ ap (λ m. gave b m s) e;
     }
 
 reads-give : {A : Type 0} (a : A) → Reads (give a) a []
 unfolding give
-reads-give a = record { reads = λ at s. let e : at ≡ at + 0 = omega arith in ap (λ m. got a m s) e }
+reads-give a = record { reads = λ at s. let e : at ≡ at + 0 = omega arith in ap (λ m. gave a m s) e }
 
 -- what follows takes no bits
-reads-still : {A B : Type 0} {p : Reader A} (k : A → Reader B) {a : A} {b : B} {f : List ℕ} → Reads p a f → Reads (k a) b [] → Reads (p >>= k) b f
-reads-still {p} k {a} {b} {f} rp rk = subst (Reads (p >>= k) b) (append-nil f) (reads-bind k rp rk)
+reads-still : {A B : Type 0} {p : Reader A} (k : A → Reader B) {a : A} {b : B} {f : List ℕ} → Reads p a f → Reads (k a) b [] → Reads (p ▹ k) b f
+reads-still {p} k {a} {b} {f} rp rk = subst (Reads (p ▹ k) b) (append-nil f) (reads-bind k rp rk)
 
-reads-last : {A B : Type 0} {p : Reader A} (h : A → B) {a : A} {f : List ℕ} → Reads p a f → Reads (p >>= (λ x. give (h x))) (h a) f
+reads-last : {A B : Type 0} {p : Reader A} (h : A → B) {a : A} {f : List ℕ} → Reads p a f → Reads (p ▹ (λ x. give (h x))) (h a) f
 reads-last h {a} rp = reads-still (λ x. give (h x)) rp (reads-give (h a))
 
 reads-field : (m w : ℕ) (ok : ℕ → Bool) (n : ℕ) → n < 2 ^ w → T (ok n) → Reads (fieldOr m w ok) n (bits w n)
@@ -56,8 +57,8 @@ unfolding fieldOr
 reads-field m w ok n h t =
     record {
       reads = λ at s.
-          ap (settle m w at ok) (number-taken w n s h) ∙ ap (λ b. cond b (got n (at + w) s) (broke m at)) (T→true (ok n) t)
-          ∙ ap (λ k. got n (at + k) s) (sym (bits-length w n));
+          ap (settle m w at ok) (number-taken w n s h) ∙ ap (λ b. cond b (gave n (at + w) s) (broke m at)) (T→true (ok n) t)
+          ∙ ap (λ k. gave n (at + k) s) (sym (bits-length w n));
     }
 
 bytes-length : (bs : List ℕ) → length (spell (map (field 8) bs)) ≡ 8 * length bs
@@ -69,8 +70,8 @@ reads-bytes ok bs h t =
     record {
       reads = λ at s.
           let w : ℕ = 8 * length bs in
-          ap (settle 20 w at ok) (bytes-taken bs s h) ∙ ap (λ b. cond b (got bs (at + w) s) (broke 20 at)) (T→true (ok bs) t)
-          ∙ ap (λ k. got bs (at + k) s) (sym (bytes-length bs));
+          ap (settle 20 w at ok) (bytes-taken bs s h) ∙ ap (λ b. cond b (gave bs (at + w) s) (broke 20 at)) (T→true (ok bs) t)
+          ∙ ap (λ k. gave bs (at + k) s) (sym (bytes-length bs));
     }
 
 reads-demand : (b : Bool) → T b → Reads (demand b) tt []
@@ -79,7 +80,7 @@ reads-demand b t =
     record {
       reads = λ at s.
           let e : at ≡ at + 0 = omega arith in
-          ap (λ b. cond b (got tt at s) (broke 20 at)) (T→true b t) ∙ ap (λ m. got tt m s) e;
+          ap (λ b. cond b (gave tt at s) (broke 20 at)) (T→true b t) ∙ ap (λ m. gave tt m s) e;
     }
 
 reads-many : {A : Type 0} (p : Reader A) (good : A → Bool) (w : A → List ℕ) → ((a : A) → T (good a) → Reads p a (w a))
@@ -92,7 +93,7 @@ reads-many p good w f (a ∷ xs) t =
 
 -- ---- and what it reads stands there
 
-pub broke-got {ℓ} : {X : Type ℓ} {A : Type 0} {n at to : ℕ} {a : A} {t : List ℕ} → broke n at ≡ got a to t → X
+pub broke-got {ℓ} : {X : Type ℓ} {A : Type 0} {n at to : ℕ} {a : A} {t : List ℕ} → broke n at ≡ gave a to t → X
 broke-got e = zero-one (cc)
 
 -- the value passes its test, and the bits are its own and those left
@@ -105,27 +106,27 @@ pub record Then {A B : Type 0} (p : Reader A) (k : A → Reader B) (at : ℕ) (s
   pub value : A
   pub place : ℕ
   pub rest : List ℕ
-  pub first : p at s ≡ got value place rest
-  pub second : k value place rest ≡ got b to t
+  pub first : p at s ≡ gave value place rest
+  pub second : k value place rest ≡ gave b to t
 
-pub split : {A B : Type 0} (p : Reader A) (k : A → Reader B) (at : ℕ) (s : List ℕ) (b : B) (to : ℕ) (t : List ℕ) → (p >>= k) at s ≡ got b to t → Then p k at s b to t
-unfolding _>>=_
+pub split : {A B : Type 0} (p : Reader A) (k : A → Reader B) (at : ℕ) (s : List ℕ) (b : B) (to : ℕ) (t : List ℕ) → (p ▹ k) at s ≡ gave b to t → Then p k at s b to t
+unfolding _▹_
 split {A} {B} p k at s b to t h = go (p at s) refl h
   where
-    go : (o : Got A) → p at s ≡ o → afterGot o k ≡ got b to t → Then p k at s b to t
+    go : (o : Outcome A) → p at s ≡ o → afterOutcome o k ≡ gave b to t → Then p k at s b to t
     go (broke n m) e h = broke-got h
-    go (got a m u) e h = record { value = a; place = m; rest = u; first = e; second = h }
+    go (gave a m u) e h = record { value = a; place = m; rest = u; first = e; second = h }
 
-given : {A : Type 0} (a : A) (at : ℕ) (s : List ℕ) (b : A) (to : ℕ) (t : List ℕ) → give a at s ≡ got b to t → (a ≡ b) × (s ≡ t)
+given : {A : Type 0} (a : A) (at : ℕ) (s : List ℕ) (b : A) (to : ℕ) (t : List ℕ) → give a at s ≡ gave b to t → (a ≡ b) × (s ≡ t)
 unfolding give
 given a at s b to t h = let ea : a ≡ b = cc in let es : s ≡ t = cc in (ea, es)
 
-field-part : (m w : ℕ) (ok : ℕ → Bool) (at : ℕ) (s : List ℕ) (v to : ℕ) (t : List ℕ) → T (all isBit s) → fieldOr m w ok at s ≡ got v to t
+field-part : (m w : ℕ) (ok : ℕ → Bool) (at : ℕ) (s : List ℕ) (v to : ℕ) (t : List ℕ) → T (all isBit s) → fieldOr m w ok at s ≡ gave v to t
     → (v < 2 ^ w) × Part (ok v) (bits w v) s t
 unfolding fieldOr
 field-part m w ok at s v to t b h = go (takeNumber w 0 s) refl h
   where
-    pass : (n : ℕ) (u : List ℕ) (c : Bool) → ok n ≡ c → takeNumber w 0 s ≡ taken n u → cond c (got n (at + w) u) (broke m at) ≡ got v to t
+    pass : (n : ℕ) (u : List ℕ) (c : Bool) → ok n ≡ c → takeNumber w 0 s ≡ taken n u → cond c (gave n (at + w) u) (broke m at) ≡ gave v to t
         → (v < 2 ^ w) × Part (ok v) (bits w v) s t
     pass n u false e d h = broke-got h
     pass n u true e d h =
@@ -134,16 +135,16 @@ field-part m w ok at s v to t b h = go (takeNumber w 0 s) refl h
         let (lt, whole, left) = taken-number w s v t b (d ∙ ap₂ taken ev et) in
         (lt, record { good = true→T (ok v) (ap ok (sym ev) ∙ e); whole = whole; left = left })
 
-    go : (o : Taken ℕ) → takeNumber w 0 s ≡ o → settle m w at ok o ≡ got v to t → (v < 2 ^ w) × Part (ok v) (bits w v) s t
+    go : (o : Taken ℕ) → takeNumber w 0 s ≡ o → settle m w at ok o ≡ gave v to t → (v < 2 ^ w) × Part (ok v) (bits w v) s t
     go short d h = broke-got h
     go (taken n u) d h = pass n u (ok n) refl d h
 
-bytes-part : (n : ℕ) (ok : List ℕ → Bool) (at : ℕ) (s v : List ℕ) (to : ℕ) (t : List ℕ) → T (all isBit s) → bytesField n ok at s ≡ got v to t
+bytes-part : (n : ℕ) (ok : List ℕ → Bool) (at : ℕ) (s v : List ℕ) (to : ℕ) (t : List ℕ) → T (all isBit s) → bytesField n ok at s ≡ gave v to t
     → (length v ≡ n) × Part (ok v) (spell (map (field 8) v)) s t
 unfolding bytesField
 bytes-part n ok at s v to t b h = go (takeBytes n s) refl h
   where
-    pass : (x u : List ℕ) (c : Bool) → ok x ≡ c → takeBytes n s ≡ taken x u → cond c (got x (at + 8 * n) u) (broke 20 at) ≡ got v to t
+    pass : (x u : List ℕ) (c : Bool) → ok x ≡ c → takeBytes n s ≡ taken x u → cond c (gave x (at + 8 * n) u) (broke 20 at) ≡ gave v to t
         → (length v ≡ n) × Part (ok v) (spell (map (field 8) v)) s t
     pass x u false e d h = broke-got h
     pass x u true e d h =
@@ -152,18 +153,18 @@ bytes-part n ok at s v to t b h = go (takeBytes n s) refl h
         let m = taken-bytes n s v t b (d ∙ ap₂ taken ev et) in
         (m .size, record { good = true→T (ok v) (ap ok (sym ev) ∙ e); whole = m .whole; left = m .left })
 
-    go : (o : Taken (List ℕ)) → takeBytes n s ≡ o → settle 20 (8 * n) at ok o ≡ got v to t → (length v ≡ n) × Part (ok v) (spell (map (field 8) v)) s t
+    go : (o : Taken (List ℕ)) → takeBytes n s ≡ o → settle 20 (8 * n) at ok o ≡ gave v to t → (length v ≡ n) × Part (ok v) (spell (map (field 8) v)) s t
     go short d h = broke-got h
     go (taken x u) d h = pass x u (ok x) refl d h
 
-demanded : (c : Bool) (at : ℕ) (s : List ℕ) (v : Unit {0}) (to : ℕ) (t : List ℕ) → demand c at s ≡ got v to t → T c × (s ≡ t)
+demanded : (c : Bool) (at : ℕ) (s : List ℕ) (v : Unit {0}) (to : ℕ) (t : List ℕ) → demand c at s ≡ gave v to t → T c × (s ≡ t)
 unfolding demand
 demanded true at s v to t h = let e : s ≡ t = cc in (tt, e)
 demanded false at s v to t h = broke-got h
 
 many-part : {A : Type 0} (p : Reader A) (good : A → Bool) (w : A → List ℕ)
-    → ((at : ℕ) (s : List ℕ) (a : A) (to : ℕ) (t : List ℕ) → T (all isBit s) → p at s ≡ got a to t → Part (good a) (w a) s t)
-    → (n at : ℕ) (s : List ℕ) (xs : List A) (to : ℕ) (t : List ℕ) → T (all isBit s) → many n p at s ≡ got xs to t
+    → ((at : ℕ) (s : List ℕ) (a : A) (to : ℕ) (t : List ℕ) → T (all isBit s) → p at s ≡ gave a to t → Part (good a) (w a) s t)
+    → (n at : ℕ) (s : List ℕ) (xs : List A) (to : ℕ) (t : List ℕ) → T (all isBit s) → many n p at s ≡ gave xs to t
     → (length xs ≡ n) × Part (all good xs) (joined (map w xs)) s t
 unfolding many
 many-part p good w f zero at s xs to t b h =
@@ -217,15 +218,15 @@ formed-bytes (utf8-4-F0 {a = a} {b = b} {c = c} {d = d} {s = s} i j k m w) = fou
 formed-bytes (utf8-4-F1 {a = a} {b = b} {c = c} {d = d} {s = s} i j k m w) = four-bytes a b c d s (in-byte (omega arith) i) (in-byte (omega arith) j) (in-byte (omega arith) k) (in-byte (omega arith) m) (formed-bytes w)
 formed-bytes (utf8-4-F4 {a = a} {b = b} {c = c} {d = d} {s = s} i j k m w) = four-bytes a b c d s (in-byte (omega arith) i) (in-byte (omega arith) j) (in-byte (omega arith) k) (in-byte (omega arith) m) (formed-bytes w)
 
-some-long : (n : List ℕ) → T (some n) → 0 < length n
+some-long : (n : List ℕ) → T (hasBytes n) → 0 < length n
 some-long [] t = absurd t
 some-long (x ∷ n) t = suc-le-suc zero-le
 
-long-some : (n : List ℕ) → 0 < length n → T (some n)
+long-some : (n : List ℕ) → 0 < length n → T (hasBytes n)
 long-some [] h = absurd (omega arith)
 long-some (x ∷ n) h = tt
 
-reads-name : (used : ℕ) (before : List (List ℕ)) (n : List ℕ) → T (some n) → used + length n ≤ 16384 → T (formed n) → T (not (any (same n) before))
+reads-name : (used : ℕ) (before : List (List ℕ)) (n : List ℕ) → T (hasBytes n) → used + length n ≤ 16384 → T (formed n) → T (not (any (same n) before))
     → Reads (readName used before) n (spell (nameFields n))
 unfolding readName nameRule
 reads-name used before n long fits good new =
@@ -233,12 +234,12 @@ reads-name used before n long fits good new =
     (reads-field 20 15 (lengthRule used) (length n) (omega arith) (yes-and (ltb 0 (length n)) (leb (used + length n) 16384) (yes-ltb (some-long n long)) (yes-leb fits)))
     (reads-bytes (nameRule before) n (formed-bytes (formed-is n good)) (yes-and (formed n) (not (any (same n) before)) good new))
 
-reads-names : (used : ℕ) (before ns : List (List ℕ)) → T (all some ns) → used + nameBytes ns ≤ 16384 → T (all formed ns) → T (onceAfter before ns)
+reads-names : (used : ℕ) (before ns : List (List ℕ)) → T (all hasBytes ns) → used + nameBytes ns ≤ 16384 → T (all formed ns) → T (onceAfter before ns)
     → Reads (readNames (length ns) used before) ns (spell (joined (map nameFields ns)))
 unfolding readNames nameBytes
 reads-names used before [] long fits good new = reads-give []
 reads-names used before (n ∷ ns) long fits good new =
-    let l = and-yes (some n) (all some ns) long in
+    let l = and-yes (hasBytes n) (all hasBytes ns) long in
     let g = and-yes (formed n) (all formed ns) good in
     let w = and-yes (not (any (same n) before)) (onceAfter (n ∷ before) ns) new in
     subst (Reads (readNames (suc (length ns)) used before) (n ∷ ns)) (sym (spell-append (nameFields n) (joined (map nameFields ns))))
@@ -246,7 +247,7 @@ reads-names used before (n ∷ ns) long fits good new =
     (reads-last (λ l. n ∷ l) (reads-names (used + length n) (n ∷ before) ns (l .1) (omega arith) (g .1) (w .1))))
 
 record NameRead (used : ℕ) (before : List (List ℕ)) (n s t : List ℕ) : Type 0 where
-  long : T (some n)
+  long : T (hasBytes n)
   fits : used + length n ≤ 16384
   good : T (formed n)
   new : T (not (any (same n) before))
@@ -254,7 +255,7 @@ record NameRead (used : ℕ) (before : List (List ℕ)) (n s t : List ℕ) : Typ
   left : T (all isBit t)
 
 name-read : (used : ℕ) (before : List (List ℕ)) (at : ℕ) (s n : List ℕ) (to : ℕ) (t : List ℕ) → T (all isBit s)
-    → readName used before at s ≡ got n to t → NameRead used before n s t
+    → readName used before at s ≡ gave n to t → NameRead used before n s t
 unfolding readName nameRule
 name-read used before at s n to t b h =
     let x = split (number 15 (lengthRule used)) (λ m. bytesField m (nameRule before)) at s n to t h in
@@ -276,7 +277,7 @@ name-read used before at s n to t b h =
 
 record NamesRead (k used : ℕ) (before ns : List (List ℕ)) (s t : List ℕ) : Type 0 where
   count : length ns ≡ k
-  long : T (all some ns)
+  long : T (all hasBytes ns)
   fits : used + nameBytes ns ≤ 16384
   good : T (all formed ns)
   new : T (onceAfter before ns)
@@ -290,7 +291,7 @@ names-made k used before n ns s u v t p q et =
     let top : used + length n + nameBytes ns ≤ 16384 = q .fits in
     record {
       count = ap suc (q .count);
-      long = yes-and (some n) (all some ns) (p .long) (q .long);
+      long = yes-and (hasBytes n) (all hasBytes ns) (p .long) (q .long);
       fits = omega arith;
       good = yes-and (formed n) (all formed ns) (p .good) (q .good);
       new = yes-and (not (any (same n) before)) (onceAfter (n ∷ before) ns) (p .new) (q .new);
@@ -301,7 +302,7 @@ names-made k used before n ns s u v t p q et =
     }
 
 names-read : (k used : ℕ) (before : List (List ℕ)) (at : ℕ) (s : List ℕ) (ns : List (List ℕ)) (to : ℕ) (t : List ℕ) → T (all isBit s) → used ≤ 16384
-    → readNames k used before at s ≡ got ns to t → NamesRead k used before ns s t
+    → readNames k used before at s ≡ gave ns to t → NamesRead k used before ns s t
 unfolding readNames nameBytes
 names-read zero used before at s ns to t b u h =
     let (en, et) = given [] at s ns to t h in
@@ -358,7 +359,7 @@ definition-made i g l s u v w t il gl ll es eu ev ew b =
       left = subst (λ k. T (all isBit k)) ew b;
     }
 
-definition-part : (at : ℕ) (s : List ℕ) (d : Definition) (to : ℕ) (t : List ℕ) → T (all isBit s) → readDefinition at s ≡ got d to t
+definition-part : (at : ℕ) (s : List ℕ) (d : Definition) (to : ℕ) (t : List ℕ) → T (all isBit s) → readDefinition at s ≡ gave d to t
     → Part (sized d) (spell (definitionFields d)) s t
 unfolding readDefinition
 definition-part at s d to t b h =
@@ -374,7 +375,7 @@ definition-part at s d to t b h =
 
 -- ---- ranges
 
-bound-bits : (c : ℕ) → T (isBound c) → c < 2 ^ 16
+pub bound-bits : (c : ℕ) → T (isBound c) → c < 2 ^ 16
 unfolding isBound
 bound-bits c t =
     let a = and-yes (leb c 0xFFFF && not (Rattle.paper.specs.Text.Scalar.between 0xD800 0xDFFF c) && not (eqb c 0xFEFF)) (not (eqb c 0xFFFE)) t in
@@ -435,7 +436,7 @@ range-made known total used l u n cs s a b c d t pl pu pn size pc ed g eg =
     })
 
 range-read : (known total used at : ℕ) (s : List ℕ) (g : Range) (to : ℕ) (t : List ℕ) → T (all isBit s)
-    → readRange known total used at s ≡ got g to t → RangeRead known total used g s t
+    → readRange known total used at s ≡ gave g to t → RangeRead known total used g s t
 unfolding readRange
 range-read known total used at s g to t b h =
     let x = split (number 16 isBound) _ at s g to t h in
@@ -475,7 +476,7 @@ ranges-made k known total used g gs s u v t p q et =
     }
 
 ranges-read : (k known total used at : ℕ) (s : List ℕ) (gs : List Range) (to : ℕ) (t : List ℕ) → T (all isBit s) → used ≤ total
-    → readRanges k known total used at s ≡ got gs to t → RangesRead k known total used gs s t
+    → readRanges k known total used at s ≡ gave gs to t → RangesRead k known total used gs s t
 unfolding readRanges references
 ranges-read zero known total used at s gs to t b u h =
     let (eg, et) = given [] at s gs to t h in
@@ -567,7 +568,7 @@ body-made categories lines ranges total ns ds gs s a b c v t n size d g e ev et 
     G = spell (joined (map rangeFields gs))
 
 body-read : (categories lines ranges total at : ℕ) (s : List ℕ) (r : Reading) (to : ℕ) (t : List ℕ) → T (all isBit s)
-    → readBody categories lines ranges total at s ≡ got r to t → BodyRead categories lines ranges total r s t
+    → readBody categories lines ranges total at s ≡ gave r to t → BodyRead categories lines ranges total r s t
 unfolding readBody
 body-read categories lines ranges total at s r to t b h =
     let x = split (readNames categories 0 []) _ at s r to t h in
@@ -631,7 +632,7 @@ fields-made v n d g q r s a b c e f t pv pn pd pg pq body =
     counts : (l : List ℕ) → headBits n d g q l ≡ headBits (length (r .names)) (length (r .definitions)) (length (r .ranges)) (references (r .ranges)) l
     counts l = rw (body .names-are, body .definitions-are, body .ranges-are, body .references-are)
 
-pub fields-read : (at : ℕ) (s : List ℕ) (r : Reading) (to : ℕ) (t : List ℕ) → T (all isBit s) → readFields at s ≡ got r to t → FieldsRead r s t
+pub fields-read : (at : ℕ) (s : List ℕ) (r : Reading) (to : ℕ) (t : List ℕ) → T (all isBit s) → readFields at s ≡ gave r to t → FieldsRead r s t
 unfolding readFields readCounted
 fields-read at s r to t b h =
     let v = split (fieldOr 18 8 (eqb 1)) _ at s r to t h in
@@ -649,27 +650,27 @@ fields-read at s r to t b h =
 
 -- ---- the pack
 
-padding-of : (at : ℕ) (s : List ℕ) → T (padded s) → padding at s ≡ got tt at []
+padding-of : (at : ℕ) (s : List ℕ) → T (isPadding s) → padding at s ≡ gave tt at []
 unfolding padding
-padding-of at s t = ap (λ b. cond b (got tt at []) (broke 21 at)) (T→true (padded s) t)
+padding-of at s t = ap (λ b. cond b (gave tt at []) (broke 21 at)) (T→true (isPadding s) t)
 
-padding-is : (at : ℕ) (s : List ℕ) (v : Unit {0}) (to : ℕ) (t : List ℕ) → padding at s ≡ got v to t → T (padded s)
+padding-is : (at : ℕ) (s : List ℕ) (v : Unit {0}) (to : ℕ) (t : List ℕ) → padding at s ≡ gave v to t → T (isPadding s)
 unfolding padding
-padding-is at s v to t h = go (padded s) refl h
+padding-is at s v to t h = go (isPadding s) refl h
   where
-    go : (c : Bool) → padded s ≡ c → cond c (got tt at []) (broke 21 at) ≡ got v to t → T (padded s)
-    go true e h = true→T (padded s) e
+    go : (c : Bool) → isPadding s ≡ c → cond c (gave tt at []) (broke 21 at) ≡ gave v to t → T (isPadding s)
+    go true e h = true→T (isPadding s) e
     go false e h = broke-got h
 
 -- the fields of a reading, whatever stands behind them
-pub fields-of : (r : Reading) (s : List ℕ) → PackRules r → readFields 0 (packBits r ++ s) ≡ got r (length (packBits r)) s
-fields-of r s k = let e : 0 + length (packBits r) ≡ length (packBits r) = omega arith in reads-fields r k .reads 0 s ∙ ap (λ m. got r m s) e
+pub fields-of : (r : Reading) (s : List ℕ) → PackRules r → readFields 0 (packBits r ++ s) ≡ gave r (length (packBits r)) s
+fields-of r s k = let e : 0 + length (packBits r) ≡ length (packBits r) = omega arith in reads-fields r k .reads 0 s ∙ ap (λ m. gave r m s) e
 
-all-of : (r : Reading) (pad : List ℕ) → PackRules r → T (padded pad) → readAll 0 (packBits r ++ pad) ≡ got r (length (packBits r)) []
-unfolding readAll _>>=_ give
+all-of : (r : Reading) (pad : List ℕ) → PackRules r → T (isPadding pad) → readAll 0 (packBits r ++ pad) ≡ gave r (length (packBits r)) []
+unfolding readAll _▹_ give
 all-of r pad k t =
-    ap (λ o. afterGot o (λ r. padding >>= (λ end. give r))) (fields-of r pad k)
-    ∙ ap (λ o. afterGot o (λ end. give r)) (padding-of (length (packBits r)) pad t)
+    ap (λ o. afterOutcome o (λ r. padding ▹ (λ end. give r))) (fields-of r pad k)
+    ∙ ap (λ o. afterOutcome o (λ end. give r)) (padding-of (length (packBits r)) pad t)
 
 -- what is written is read back
 pub write-read : (r : Reading) → PackRules r → readPack (packBytes r) ≡ accepted r
@@ -681,21 +682,21 @@ write-read r k =
 pub record PackIs (p : List ℕ) (r : Reading) : Type 0 where
   pub rules : PackRules r
   pub pad : List ℕ
-  pub zero-bits : T (padded pad)
+  pub zero-bits : T (isPadding pad)
   pub whole : unpackBits p ≡ packBits r ++ pad
 
-all-read : (p : List ℕ) (r : Reading) (to : ℕ) (t : List ℕ) → readAll 0 (unpackBits p) ≡ got r to t → PackIs p r
+all-read : (p : List ℕ) (r : Reading) (to : ℕ) (t : List ℕ) → readAll 0 (unpackBits p) ≡ gave r to t → PackIs p r
 unfolding readAll
 all-read p r to t e =
     let x = split readFields _ 0 (unpackBits p) r to t e in
     let y = split padding _ (x .place) (x .rest) r to t (x .second) in
     let (er, et) = given (x .value) (y .place) (y .rest) r to t (y .second) in
-    let f = fields-read 0 (unpackBits p) r (x .place) (x .rest) (unpack-bits p) (x .first ∙ ap (λ v. got v (x .place) (x .rest)) er) in
+    let f = fields-read 0 (unpackBits p) r (x .place) (x .rest) (unpack-bits p) (x .first ∙ ap (λ v. gave v (x .place) (x .rest)) er) in
     record { rules = f .rules; pad = x .rest; zero-bits = padding-is (x .place) (x .rest) (y .value) (y .place) (y .rest) (y .first); whole = f .whole }
 
-answered : (o : Got Reading) (r : Reading) → answer o ≡ accepted r → (to : ℕ) × (t : List ℕ) × (o ≡ got r to t)
+answered : (o : Outcome Reading) (r : Reading) → answer o ≡ accepted r → (to : ℕ) × (t : List ℕ) × (o ≡ gave r to t)
 answered (broke n at) r h = refused-accepted h
-answered (got q to t) r h = let e : q ≡ r = cc in (to, t, ap (λ v. got v to t) e)
+answered (gave q to t) r h = let e : q ≡ r = cc in (to, t, ap (λ v. gave v to t) e)
 
 pub pack-is : (p : List ℕ) (r : Reading) → readPack p ≡ accepted r → PackIs p r
 unfolding readPack

@@ -15,11 +15,12 @@ use Rattle.paper.specs.CharDef.Reading.{Reading, references}
 use Rattle.paper.specs.CharDef.Read.{Answer, accepted, refused}
 use Rattle.paper.specs.Pack.Fields.{bits, packBits}
 use Rattle.paper.specs.Pack.Rules.{PackRules}
-use Rattle.paper.specs.Pack.Read.{unpackBits, Taken, short, taken, takeNumber, consTaken, afterByte, takeBytes, Got, got, broke, Reader, afterGot, _>>=_, give, settle, fieldOr, number, bytesField, demand, padded, padding, many, lengthRule, nameRule, readName, readNames, readDefinition, readRange, readRanges, upTo, readBody, readCounted, readFields, readAll, answer, readPack}
+use Rattle.paper.specs.Pack.Read.{unpackBits, Taken, short, taken, takeNumber, consTaken, afterByte, takeBytes, Outcome, gave, broke, Reader, afterOutcome, _▹_, give, settle, fieldOr, number, bytesField, demand, isPadding, padding, many, lengthRule, nameRule, readName, readNames, readDefinition, readRange, readRanges, upTo, readBody, readCounted, readFields, readAll, answer, readPack}
 use Rattle.paper.proofs.Lists.Facts.{T→false}
 use Rattle.paper.proofs.CharDef.Sound.{zero-one, false→T, all-left}
 use Rattle.paper.proofs.CharDef.Whole.{refused-accepted}
-use Rattle.paper.proofs.Pack.Bits.{isByte, unpack-bits, number-taken, short-taken}
+use Rattle.paper.proofs.Pack.Bits.{unpack-bits, number-taken, short-taken}
+use Rattle.paper.specs.Numbers.Bytes.{isByte}
 use Rattle.paper.proofs.Pack.Trip.{broke-got, fields-read, fields-of, pack-is}
 
 -- ---- an orderly reader
@@ -27,19 +28,19 @@ use Rattle.paper.proofs.Pack.Trip.{broke-got, fields-read, fields-of, p
 -- it moves on by the bits that it takes; where it breaks, the number is one of these and the place is in reach;
 -- more bits behind change nothing, unless it broke for want of bits
 pub record Orderly {A : Type 0} (S : ℕ → Bool) (p : Reader A) : Type 0 where
-  pub moves : (at : ℕ) (s : List ℕ) (a : A) (to : ℕ) (t : List ℕ) → p at s ≡ got a to t → (at ≤ to) × (to + length t ≡ at + length s)
+  pub moves : (at : ℕ) (s : List ℕ) (a : A) (to : ℕ) (t : List ℕ) → p at s ≡ gave a to t → (at ≤ to) × (to + length t ≡ at + length s)
   pub breaks : (at : ℕ) (s : List ℕ) (n m : ℕ) → p at s ≡ broke n m → T (S n) × (at ≤ m) × (m ≤ at + length s)
-  pub goes : (at : ℕ) (s : List ℕ) (a : A) (to : ℕ) (t : List ℕ) → p at s ≡ got a to t → (u : List ℕ) → p at (s ++ u) ≡ got a to (t ++ u)
+  pub goes : (at : ℕ) (s : List ℕ) (a : A) (to : ℕ) (t : List ℕ) → p at s ≡ gave a to t → (u : List ℕ) → p at (s ++ u) ≡ gave a to (t ++ u)
   pub stops : (at : ℕ) (s : List ℕ) (n m : ℕ) → p at s ≡ broke n m → n ≢ 19 → (u : List ℕ) → p at (s ++ u) ≡ broke n m
 
-got-broke {ℓ} : {X : Type ℓ} {A : Type 0} {n at to : ℕ} {a : A} {t : List ℕ} → got a to t ≡ broke n at → X
+got-broke {ℓ} : {X : Type ℓ} {A : Type 0} {n at to : ℕ} {a : A} {t : List ℕ} → gave a to t ≡ broke n at → X
 got-broke e = zero-one (cc)
 
-broke-same : {A : Type 0} (i j n m : ℕ) → _≡_ {A = Got A} (broke i j) (broke n m) → (i ≡ n) × (j ≡ m)
+broke-same : {A : Type 0} (i j n m : ℕ) → _≡_ {A = Outcome A} (broke i j) (broke n m) → (i ≡ n) × (j ≡ m)
 broke-same i j n m h = let e : i ≡ n = cc in let d : j ≡ m = cc in (e, d)
 
-orderly-bind : {A B : Type 0} (S : ℕ → Bool) (p : Reader A) (k : A → Reader B) → Orderly S p → ((a : A) → Orderly S (k a)) → Orderly S (p >>= k)
-unfolding _>>=_
+orderly-bind : {A B : Type 0} (S : ℕ → Bool) (p : Reader A) (k : A → Reader B) → Orderly S p → ((a : A) → Orderly S (k a)) → Orderly S (p ▹ k)
+unfolding _▹_
 orderly-bind {A} {B} S p k o f =
     record {
       moves = λ at s b to t h. moves at s b to t (p at s) refl h;
@@ -48,27 +49,27 @@ orderly-bind {A} {B} S p k o f =
       stops = λ at s n m h d u. stops at s n m d u (p at s) refl h;
     }
   where
-    moves : (at : ℕ) (s : List ℕ) (b : B) (to : ℕ) (t : List ℕ) (g : Got A) → p at s ≡ g → afterGot g k ≡ got b to t → (at ≤ to) × (to + length t ≡ at + length s)
+    moves : (at : ℕ) (s : List ℕ) (b : B) (to : ℕ) (t : List ℕ) (g : Outcome A) → p at s ≡ g → afterOutcome g k ≡ gave b to t → (at ≤ to) × (to + length t ≡ at + length s)
     moves at s b to t (broke n m) e h = broke-got h
-    moves at s b to t (got a m v) e h =
+    moves at s b to t (gave a m v) e h =
         let (i, x) = o .moves at s a m v e in
         let (j, y) = f a .moves m v b to t h in
         (omega arith, omega arith)
 
-    breaks : (at : ℕ) (s : List ℕ) (n m : ℕ) (g : Got A) → p at s ≡ g → afterGot g k ≡ broke n m → T (S n) × (at ≤ m) × (m ≤ at + length s)
+    breaks : (at : ℕ) (s : List ℕ) (n m : ℕ) (g : Outcome A) → p at s ≡ g → afterOutcome g k ≡ broke n m → T (S n) × (at ≤ m) × (m ≤ at + length s)
     breaks at s n m (broke i j) e h = let (ei, ej) = broke-same i j n m h in o .breaks at s n m (e ∙ ap₂ broke ei ej)
-    breaks at s n m (got a j v) e h =
+    breaks at s n m (gave a j v) e h =
         let (i, x) = o .moves at s a j v e in
         let (t, y, z) = f a .breaks j v n m h in
         (t, omega arith, omega arith)
 
-    goes : (at : ℕ) (s : List ℕ) (b : B) (to : ℕ) (t u : List ℕ) (g : Got A) → p at s ≡ g → afterGot g k ≡ got b to t → afterGot (p at (s ++ u)) k ≡ got b to (t ++ u)
+    goes : (at : ℕ) (s : List ℕ) (b : B) (to : ℕ) (t u : List ℕ) (g : Outcome A) → p at s ≡ g → afterOutcome g k ≡ gave b to t → afterOutcome (p at (s ++ u)) k ≡ gave b to (t ++ u)
     goes at s b to t u (broke n m) e h = broke-got h
-    goes at s b to t u (got a m v) e h = ap (λ g. afterGot g k) (o .goes at s a m v e u) ∙ f a .goes m v b to t h u
+    goes at s b to t u (gave a m v) e h = ap (λ g. afterOutcome g k) (o .goes at s a m v e u) ∙ f a .goes m v b to t h u
 
-    stops : (at : ℕ) (s : List ℕ) (n m : ℕ) → n ≢ 19 → (u : List ℕ) (g : Got A) → p at s ≡ g → afterGot g k ≡ broke n m → afterGot (p at (s ++ u)) k ≡ broke n m
-    stops at s n m d u (broke i j) e h = let (ei, ej) = broke-same i j n m h in ap (λ g. afterGot g k) (o .stops at s n m (e ∙ ap₂ broke ei ej) d u)
-    stops at s n m d u (got a j v) e h = ap (λ g. afterGot g k) (o .goes at s a j v e u) ∙ f a .stops j v n m h d u
+    stops : (at : ℕ) (s : List ℕ) (n m : ℕ) → n ≢ 19 → (u : List ℕ) (g : Outcome A) → p at s ≡ g → afterOutcome g k ≡ broke n m → afterOutcome (p at (s ++ u)) k ≡ broke n m
+    stops at s n m d u (broke i j) e h = let (ei, ej) = broke-same i j n m h in ap (λ g. afterOutcome g k) (o .stops at s n m (e ∙ ap₂ broke ei ej) d u)
+    stops at s n m d u (gave a j v) e h = ap (λ g. afterOutcome g k) (o .goes at s a j v e u) ∙ f a .stops j v n m h d u
 
 orderly-give : {A : Type 0} (S : ℕ → Bool) (a : A) → Orderly S (give a)
 unfolding give
@@ -80,7 +81,7 @@ orderly-give {A} S a =
       stops = λ at s n m h d u. got-broke h;
     }
   where
-    moves : (at : ℕ) (s : List ℕ) (b : A) (to : ℕ) (t : List ℕ) → got a at s ≡ got b to t → (at ≤ to) × (to + length t ≡ at + length s)
+    moves : (at : ℕ) (s : List ℕ) (b : A) (to : ℕ) (t : List ℕ) → gave a at s ≡ gave b to t → (at ≤ to) × (to + length t ≡ at + length s)
     moves at s b to t h =
         let em : at ≡ to = cc in
         let et : s ≡ t = cc in
@@ -89,13 +90,13 @@ orderly-give {A} S a =
 
 -- ---- fields
 
-settle-got : {A : Type 0} (n w at : ℕ) (ok : A → Bool) (o : Taken A) (a : A) (to : ℕ) (t : List ℕ) → settle n w at ok o ≡ got a to t
+settle-got : {A : Type 0} (n w at : ℕ) (ok : A → Bool) (o : Taken A) (a : A) (to : ℕ) (t : List ℕ) → settle n w at ok o ≡ gave a to t
     → (o ≡ taken a t) × (ok a ≡ true) × (at + w ≡ to)
 unfolding settle
 settle-got n w at ok short a to t h = broke-got h
 settle-got n w at ok (taken x v) a to t h = go (ok x) refl h
   where
-    go : (c : Bool) → ok x ≡ c → cond c (got x (at + w) v) (broke n at) ≡ got a to t → (taken x v ≡ taken a t) × (ok a ≡ true) × (at + w ≡ to)
+    go : (c : Bool) → ok x ≡ c → cond c (gave x (at + w) v) (broke n at) ≡ gave a to t → (taken x v ≡ taken a t) × (ok a ≡ true) × (at + w ≡ to)
     go true e h =
         let ea : x ≡ a = cc in
         let et : v ≡ t = cc in
@@ -110,7 +111,7 @@ unfolding settle
 settle-broke n w at ok short k m h = let ek : 19 ≡ k = cc in let em : at ≡ m = cc in (em, inl ek)
 settle-broke {A} n w at ok (taken x v) k m h = go (ok x) refl h
   where
-    go : (c : Bool) → ok x ≡ c → cond c (got x (at + w) v) (broke n at) ≡ broke k m
+    go : (c : Bool) → ok x ≡ c → cond c (gave x (at + w) v) (broke n at) ≡ broke k m
         → (at ≡ m) × ((19 ≡ k) ⊎ ((a : A) × (t : List ℕ) × (taken x v ≡ taken a t) × (ok a ≡ false) × (n ≡ k)))
     go true e h = got-broke h
     go false e h = let ek : n ≡ k = cc in let em : at ≡ m = cc in (em, inr (x, v, refl, e, ek))
@@ -123,7 +124,7 @@ module _ {A : Type 0} (S : ℕ → Bool) (n w : ℕ) (ok : A → Bool) (take : L
   unfolding settle
   orderly-settle = record { moves = moves; breaks = breaks; goes = goes; stops = stops }
     where
-      moves : (at : ℕ) (s : List ℕ) (a : A) (to : ℕ) (t : List ℕ) → settle n w at ok (take s) ≡ got a to t → (at ≤ to) × (to + length t ≡ at + length s)
+      moves : (at : ℕ) (s : List ℕ) (a : A) (to : ℕ) (t : List ℕ) → settle n w at ok (take s) ≡ gave a to t → (at ≤ to) × (to + length t ≡ at + length s)
       moves at s a to t h =
           let (o, c, e) = settle-got n w at ok (take s) a to t h in
           let l = size s a t o in
@@ -138,10 +139,10 @@ module _ {A : Type 0} (S : ℕ → Bool) (n w : ℕ) (ok : A → Bool) (take : L
           which (inl e) = subst (λ k. T (S k)) e ends
           which (inr (a, t, o, c, e)) = subst (λ k. T (S k)) e own
 
-      goes : (at : ℕ) (s : List ℕ) (a : A) (to : ℕ) (t : List ℕ) → settle n w at ok (take s) ≡ got a to t → (u : List ℕ) → settle n w at ok (take (s ++ u)) ≡ got a to (t ++ u)
+      goes : (at : ℕ) (s : List ℕ) (a : A) (to : ℕ) (t : List ℕ) → settle n w at ok (take s) ≡ gave a to t → (u : List ℕ) → settle n w at ok (take (s ++ u)) ≡ gave a to (t ++ u)
       goes at s a to t h u =
           let (o, c, e) = settle-got n w at ok (take s) a to t h in
-          ap (settle n w at ok) (more s a t o u) ∙ ap (λ b. cond b (got a (at + w) (t ++ u)) (broke n at)) c ∙ ap (λ m. got a m (t ++ u)) e
+          ap (settle n w at ok) (more s a t o u) ∙ ap (λ b. cond b (gave a (at + w) (t ++ u)) (broke n at)) c ∙ ap (λ m. gave a m (t ++ u)) e
 
       stops : (at : ℕ) (s : List ℕ) (k m : ℕ) → settle n w at ok (take s) ≡ broke k m → k ≢ 19 → (u : List ℕ) → settle n w at ok (take (s ++ u)) ≡ broke k m
       stops at s k m h d u = let (e, o) = settle-broke n w at ok (take s) k m h in which e o
@@ -149,7 +150,7 @@ module _ {A : Type 0} (S : ℕ → Bool) (n w : ℕ) (ok : A → Bool) (take : L
           which : at ≡ m → (19 ≡ k) ⊎ ((a : A) × (t : List ℕ) × (take s ≡ taken a t) × (ok a ≡ false) × (n ≡ k)) → settle n w at ok (take (s ++ u)) ≡ broke k m
           which em (inl e) = absurd (d (sym e))
           which em (inr (a, t, o, c, e)) =
-              ap (settle n w at ok) (more s a t o u) ∙ ap (λ b. cond b (got a (at + w) (t ++ u)) (broke n at)) c ∙ ap₂ broke e em
+              ap (settle n w at ok) (more s a t o u) ∙ ap (λ b. cond b (gave a (at + w) (t ++ u)) (broke n at)) c ∙ ap₂ broke e em
 
 number-size : (w high : ℕ) (s : List ℕ) (v : ℕ) (t : List ℕ) → takeNumber w high s ≡ taken v t → length s ≡ w + length t
 number-size zero high s v t h = let e : s ≡ t = cc in let l : length s ≡ length t = ap length e in omega arith
@@ -227,7 +228,7 @@ orderly-demand b =
       stops = λ at s n m h d u. stops b at s n m h u;
     }
   where
-    moves : (b : Bool) (at : ℕ) (s : List ℕ) (a : Unit {0}) (to : ℕ) (t : List ℕ) → demand b at s ≡ got a to t → (at ≤ to) × (to + length t ≡ at + length s)
+    moves : (b : Bool) (at : ℕ) (s : List ℕ) (a : Unit {0}) (to : ℕ) (t : List ℕ) → demand b at s ≡ gave a to t → (at ≤ to) × (to + length t ≡ at + length s)
     moves true at s a to t h =
         let em : at ≡ to = cc in
         let et : s ≡ t = cc in
@@ -242,8 +243,8 @@ orderly-demand b =
         let em : at ≡ m = cc in
         (subst (λ k. T (late k)) en tt, omega arith, omega arith)
 
-    goes : (b : Bool) (at : ℕ) (s : List ℕ) (a : Unit {0}) (to : ℕ) (t : List ℕ) → demand b at s ≡ got a to t → (u : List ℕ)
-        → demand b at (s ++ u) ≡ got a to (t ++ u)
+    goes : (b : Bool) (at : ℕ) (s : List ℕ) (a : Unit {0}) (to : ℕ) (t : List ℕ) → demand b at s ≡ gave a to t → (u : List ℕ)
+        → demand b at (s ++ u) ≡ gave a to (t ++ u)
     goes true at s a to t h u = let em : at ≡ to = cc in let et : s ≡ t = cc in cc
     goes false at s a to t h u = broke-got h
 
@@ -325,44 +326,44 @@ orderly-fields = orderly-bind early _ _ (orderly-field early 18 8 (eqb 1) tt tt)
 
 -- ---- the padding
 
-padding-broke : (at : ℕ) (s : List ℕ) (n m : ℕ) → padding at s ≡ broke n m → (padded s ≡ false) × (21 ≡ n) × (at ≡ m)
+padding-broke : (at : ℕ) (s : List ℕ) (n m : ℕ) → padding at s ≡ broke n m → (isPadding s ≡ false) × (21 ≡ n) × (at ≡ m)
 unfolding padding
-padding-broke at s n m h = go (padded s) refl h
+padding-broke at s n m h = go (isPadding s) refl h
   where
-    go : (b : Bool) → padded s ≡ b → _≡_ {A = Got (Unit {0})} (cond b (got tt at []) (broke 21 at)) (broke n m) → (padded s ≡ false) × (21 ≡ n) × (at ≡ m)
+    go : (b : Bool) → isPadding s ≡ b → _≡_ {A = Outcome (Unit {0})} (cond b (gave tt at []) (broke 21 at)) (broke n m) → (isPadding s ≡ false) × (21 ≡ n) × (at ≡ m)
     go true e h = got-broke h
     go false e h = let en : 21 ≡ n = cc in let em : at ≡ m = cc in (e, en, em)
 
 -- a field is broken, or they all are read and what is left is no padding
 Broken : List ℕ → ℕ → ℕ → Type 0
 Broken s n at =
-    (readFields 0 s ≡ broke n at) ⊎ ((r : Reading) × (t : List ℕ) × (readFields 0 s ≡ got r at t) × (padded t ≡ false) × (21 ≡ n))
+    (readFields 0 s ≡ broke n at) ⊎ ((r : Reading) × (t : List ℕ) × (readFields 0 s ≡ gave r at t) × (isPadding t ≡ false) × (21 ≡ n))
 
 all-broken : (s : List ℕ) (n at : ℕ) → readAll 0 s ≡ broke n at → Broken s n at
-unfolding readAll _>>=_ give Broken
+unfolding readAll _▹_ give Broken
 all-broken s n at h = go (readFields 0 s) refl h
   where
-    pad : (r : Reading) (m : ℕ) (t : List ℕ) → readFields 0 s ≡ got r m t → (o : Got (Unit {0})) → padding m t ≡ o → afterGot o (λ end. give r) ≡ broke n at → Broken s n at
-    pad r m t e (got u to v) d h = got-broke h
+    pad : (r : Reading) (m : ℕ) (t : List ℕ) → readFields 0 s ≡ gave r m t → (o : Outcome (Unit {0})) → padding m t ≡ o → afterOutcome o (λ end. give r) ≡ broke n at → Broken s n at
+    pad r m t e (gave u to v) d h = got-broke h
     pad r m t e (broke i j) d h =
         let (ei, ej) = broke-same i j n at h in
         let (c, en, em) = padding-broke m t i j d in
-        inr (r, t, e ∙ ap (λ m. got r m t) (em ∙ ej), c, en ∙ ei)
+        inr (r, t, e ∙ ap (λ m. gave r m t) (em ∙ ej), c, en ∙ ei)
 
-    go : (o : Got Reading) → readFields 0 s ≡ o → afterGot o (λ r. padding >>= (λ end. give r)) ≡ broke n at → Broken s n at
+    go : (o : Outcome Reading) → readFields 0 s ≡ o → afterOutcome o (λ r. padding ▹ (λ end. give r)) ≡ broke n at → Broken s n at
     go (broke i j) e h = inl (e ∙ h)
-    go (got r m t) e h = pad r m t e (padding m t) refl h
+    go (gave r m t) e h = pad r m t e (padding m t) refl h
 
 broken-all : (s : List ℕ) (n at : ℕ) → Broken s n at → readAll 0 s ≡ broke n at
-unfolding readAll _>>=_ give Broken padding
-broken-all s n at (inl e) = ap (λ o. afterGot o (λ r. padding >>= (λ end. give r))) e
+unfolding readAll _▹_ give Broken padding
+broken-all s n at (inl e) = ap (λ o. afterOutcome o (λ r. padding ▹ (λ end. give r))) e
 broken-all s n at (inr (r, t, e, c, en)) =
-    ap (λ o. afterGot o (λ r. padding >>= (λ end. give r))) e
-    ∙ ap (λ b. afterGot (cond b (got tt at []) (broke 21 at)) (λ end. give r)) c
+    ap (λ o. afterOutcome o (λ r. padding ▹ (λ end. give r))) e
+    ∙ ap (λ b. afterOutcome (cond b (gave tt at []) (broke 21 at)) (λ end. give r)) c
     ∙ ap (λ n. broke n at) en
 
-answer-refused : (o : Got Reading) (n at : ℕ) → answer o ≡ refused n at → o ≡ broke n at
-answer-refused (got r to t) n at h = refused-accepted (sym h)
+answer-refused : (o : Outcome Reading) (n at : ℕ) → answer o ≡ refused n at → o ≡ broke n at
+answer-refused (gave r to t) n at h = refused-accepted (sym h)
 answer-refused (broke i j) n at h = let e : i ≡ n = cc in let d : j ≡ at = cc in cc
 
 broken-of : (p : List ℕ) (n at : ℕ) → readPack p ≡ refused n at → Broken (unpackBits p) n at
@@ -408,7 +409,7 @@ refused-numbers p n at h = go (broken-of p n at h)
 
 -- 18 exactly when there is a first byte and it is not 1
 pub refused-18 : (p : List ℕ) (at : ℕ) → T (all isByte p) → (readPack p ≡ refused 18 at) ↔ ((at ≡ 0) × (b : ℕ) × (q : List ℕ) × (p ≡ b ∷ q) × (b ≢ 1))
-unfolding Broken readFields _>>=_ fieldOr
+unfolding Broken readFields _▹_ fieldOr
 refused-18 p at bytes = (λ h. only (broken-of p 18 at h), λ (e, b, q, ep, d). given e b q ep d)
   where
     first : (b : ℕ) (q : List ℕ) → T (all isByte (b ∷ q)) → takeNumber 8 0 (unpackBits (b ∷ q)) ≡ taken b (unpackBits q)
@@ -428,9 +429,9 @@ refused-18 p at bytes = (λ h. only (broken-of p 18 at h), λ (e, b, q, ep, d). 
         which e (inl z) = absurd (omega arith)
         which e (inr (a, t, o, c, z)) = let (b, q, ep, d) = byte p bytes a t o c in (sym e, b, q, ep, d)
 
-    fields : (o : Got ℕ) → settle 18 8 0 (eqb 1) (takeNumber 8 0 (unpackBits p)) ≡ o → afterGot o (λ v. readCounted) ≡ broke 18 at → (at ≡ 0) × (b : ℕ) × (q : List ℕ) × (p ≡ b ∷ q) × (b ≢ 1)
+    fields : (o : Outcome ℕ) → settle 18 8 0 (eqb 1) (takeNumber 8 0 (unpackBits p)) ≡ o → afterOutcome o (λ v. readCounted) ≡ broke 18 at → (at ≡ 0) × (b : ℕ) × (q : List ℕ) × (p ≡ b ∷ q) × (b ≢ 1)
     fields (broke i j) e h = let (ei, ej) = broke-same i j 18 at h in field at (e ∙ ap₂ broke ei ej)
-    fields (got v m t) e h = absurd (orderly-counted .breaks m t 18 at h .0)
+    fields (gave v m t) e h = absurd (orderly-counted .breaks m t 18 at h .0)
 
     only : Broken (unpackBits p) 18 at → (at ≡ 0) × (b : ℕ) × (q : List ℕ) × (p ≡ b ∷ q) × (b ≢ 1)
     only (inl e) = fields (settle 18 8 0 (eqb 1) (takeNumber 8 0 (unpackBits p))) refl e
@@ -441,30 +442,30 @@ refused-18 p at bytes = (λ h. only (broken-of p 18 at h), λ (e, b, q, ep, d). 
         let t : T (all isByte (b ∷ q)) = subst (λ l. T (all isByte l)) ep bytes in
         let c : eqb 1 b ≡ false = T→false (eqb 1 b) (not-T (eqb 1 b) (λ u. d (sym (eqb→eq 1 b u)))) in
         ap readPack ep ∙ of-broken (b ∷ q) 18 0
-        (inl (ap (λ o. afterGot (settle 18 8 0 (eqb 1) o) (λ v. readCounted)) (first b q t) ∙ ap (λ x. afterGot (cond x (got b (0 + 8) (unpackBits q)) (broke 18 0)) (λ v. readCounted)) c))
+        (inl (ap (λ o. afterOutcome (settle 18 8 0 (eqb 1) o) (λ v. readCounted)) (first b q t) ∙ ap (λ x. afterOutcome (cond x (gave b (0 + 8) (unpackBits q)) (broke 18 0)) (λ v. readCounted)) c))
         ∙ ap (refused 18) (sym e)
 
 -- 21 exactly when the fields of a reading stand there, keep the rules, and no padding stands behind them
 pub refused-21 : (p : List ℕ) (at : ℕ) → (readPack p ≡ refused 21 at)
-    ↔ ((r : Reading) × (s : List ℕ) × PackRules r × (unpackBits p ≡ packBits r ++ s) × T (not (padded s)) × (at ≡ length (packBits r)))
+    ↔ ((r : Reading) × (s : List ℕ) × PackRules r × (unpackBits p ≡ packBits r ++ s) × T (not (isPadding s)) × (at ≡ length (packBits r)))
 unfolding Broken
 refused-21 p at = (λ h. only (broken-of p 21 at h), λ (r, s, k, w, n, e). given r s k w n e)
   where
-    only : Broken (unpackBits p) 21 at → (r : Reading) × (s : List ℕ) × PackRules r × (unpackBits p ≡ packBits r ++ s) × T (not (padded s)) × (at ≡ length (packBits r))
+    only : Broken (unpackBits p) 21 at → (r : Reading) × (s : List ℕ) × PackRules r × (unpackBits p ≡ packBits r ++ s) × T (not (isPadding s)) × (at ≡ length (packBits r))
     only (inl e) = absurd (orderly-fields .breaks 0 (unpackBits p) 21 at e .0)
     only (inr (r, t, e, c, z)) =
         let f = fields-read 0 (unpackBits p) r at t (unpack-bits p) e in
         let g = fields-of r t (f .rules) in
         let w : unpackBits p ≡ packBits r ++ t = f .whole in
-        let m : got r at t ≡ got r (length (packBits r)) t = sym e ∙ ap (readFields 0) w ∙ g in
+        let m : gave r at t ≡ gave r (length (packBits r)) t = sym e ∙ ap (readFields 0) w ∙ g in
         let em : at ≡ length (packBits r) = cc in
         (r, t, f .rules, w, false→T _ c, em)
 
-    given : (r : Reading) (s : List ℕ) → PackRules r → unpackBits p ≡ packBits r ++ s → T (not (padded s)) → at ≡ length (packBits r) → readPack p ≡ refused 21 at
+    given : (r : Reading) (s : List ℕ) → PackRules r → unpackBits p ≡ packBits r ++ s → T (not (isPadding s)) → at ≡ length (packBits r) → readPack p ≡ refused 21 at
     given r s k w n e =
-        of-broken p 21 at (inr (r, s, ap (readFields 0) w ∙ fields-of r s k ∙ ap (λ m. got r m s) (sym e), T→false (padded s) n, refl))
+        of-broken p 21 at (inr (r, s, ap (readFields 0) w ∙ fields-of r s k ∙ ap (λ m. gave r m s) (sym e), T→false (isPadding s) n, refl))
 
-padded-left : (s u : List ℕ) → T (padded (s ++ u)) → T (padded s)
+padded-left : (s u : List ℕ) → T (isPadding (s ++ u)) → T (isPadding s)
 padded-left s u t =
     let g = and-yes (ltb (length (s ++ u)) 8) (all (eqb 0) (s ++ u)) t in
     let l : length (s ++ u) < 8 = ltb-yes (g .0) in
@@ -479,7 +480,7 @@ refused-stays p q n at d h = of-broken (p ++ q) n at (subst (λ l. Broken l n at
     go : Broken (unpackBits p) n at → Broken (unpackBits p ++ unpackBits q) n at
     go (inl e) = inl (orderly-fields .stops 0 (unpackBits p) n at e d (unpackBits q))
     go (inr (r, t, e, c, z)) =
-        inr (r, t ++ unpackBits q, orderly-fields .goes 0 (unpackBits p) r at t e (unpackBits q), T→false (padded (t ++ unpackBits q)) (not-T (padded (t ++ unpackBits q)) (λ u. T-not (padded t) (padded-left t (unpackBits q) u) (false→T _ c))), z)
+        inr (r, t ++ unpackBits q, orderly-fields .goes 0 (unpackBits p) r at t e (unpackBits q), T→false (isPadding (t ++ unpackBits q)) (not-T (isPadding (t ++ unpackBits q)) (λ u. T-not (isPadding t) (padded-left t (unpackBits q) u) (false→T _ c))), z)
 
 -- an accepted pack with bytes left over
 pub accepted-more : (p q : List ℕ) (b : ℕ) (r : Reading) → readPack p ≡ accepted r → readPack (p ++ (b ∷ q)) ≡ refused 21 (length (packBits r))
@@ -489,9 +490,9 @@ accepted-more p q b r h =
     unpack-append p (b ∷ q) ∙ ap (λ l. l ++ unpackBits (b ∷ q)) (k .whole) ∙ append-assoc (packBits r) (k .pad) (unpackBits (b ∷ q)) in
     refused-21 (p ++ (b ∷ q)) (length (packBits r)) .1 (r, k .pad ++ unpackBits (b ∷ q), k .rules, w, long (k .pad), refl)
   where
-    long : (pad : List ℕ) → T (not (padded (pad ++ unpackBits (b ∷ q))))
+    long : (pad : List ℕ) → T (not (isPadding (pad ++ unpackBits (b ∷ q))))
     long pad =
-        not-T (padded (pad ++ unpackBits (b ∷ q)))
+        not-T (isPadding (pad ++ unpackBits (b ∷ q)))
         (λ t. let l : length (pad ++ unpackBits (b ∷ q)) < 8 = ltb-yes (and-yes (ltb (length (pad ++ unpackBits (b ∷ q))) 8) _ t .0) in
         omega (arith, length-append pad (unpackBits (b ∷ q)), unpack-size (b ∷ q)))
 

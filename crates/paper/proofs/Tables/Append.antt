@@ -9,7 +9,9 @@ use lib.Seq.{sets, length-sets, take-append-seam, drop-append-add}
 use borrow.Author.Tests.{le-leb}
 use Rattle.paper.specs.Lists.{joined}
 use Rattle.paper.specs.CharDef.Reading.{Range, references}
-use Rattle.paper.specs.Tables.Layout.{le, patch, padded, Row, rowBytes, rows, rangeTable, referenceTable, numbersOf}
+use Rattle.paper.specs.Numbers.Bytes.{le}
+use Rattle.paper.specs.Tables.Lent.{patch, padded}
+use Rattle.paper.specs.Tables.Layout.{RangeSlot, slotBytes, rangeSlots, rangeTable, referenceTable, numbersOf}
 use Rattle.paper.proofs.Tables.Laws.{patch-in, table-length}
 use Rattle.paper.proofs.Tables.Trip.{numbers-length, rows-length, wide-row, wide-number}
 
@@ -79,18 +81,18 @@ entry-more w f wide xs ys at n e h =
 
 -- ---- one more range
 
-abbrev pub newRow : List Range → Range → Row
-newRow gs g = record { lower = g .lower; upper = g .upper; first = references gs; count = length (g .categories) }
+abbrev pub newSlot : List Range → Range → RangeSlot
+newSlot gs g = record { lower = g .lower; upper = g .upper; first = references gs; count = length (g .categories) }
 
 rows-snoc : (at : ℕ) (gs : List Range) (g : Range)
-    → rows at (gs ++ (g ∷ [])) ≡ rows at gs ++ (record { lower = g .lower; upper = g .upper; first = at + references gs; count = length (g .categories) } ∷ [])
-unfolding rows references
+    → rangeSlots at (gs ++ (g ∷ [])) ≡ rangeSlots at gs ++ (record { lower = g .lower; upper = g .upper; first = at + references gs; count = length (g .categories) } ∷ [])
+unfolding rangeSlots references
 rows-snoc at [] g = let e : at ≡ at + 0 = omega arith in ap (λ k. record { lower = g .lower; upper = g .upper; first = k; count = length (g .categories) } ∷ []) e
 rows-snoc at (h ∷ gs) g =
     let e : at + length (h .categories) + references gs ≡ at + (length (h .categories) + references gs) = omega arith in
     ap (λ l. record { lower = h .lower; upper = h .upper; first = at; count = length (h .categories) } ∷ l)
     (rows-snoc (at + length (h .categories)) gs g
-    ∙ ap (λ k. rows (at + length (h .categories)) gs ++ (record { lower = g .lower; upper = g .upper; first = k; count = length (g .categories) } ∷ [])) e)
+    ∙ ap (λ k. rangeSlots (at + length (h .categories)) gs ++ (record { lower = g .lower; upper = g .upper; first = k; count = length (g .categories) } ∷ [])) e)
 
 numbers-snoc : (gs : List Range) (g : Range) → numbersOf (gs ++ (g ∷ [])) ≡ numbersOf gs ++ g .categories
 numbers-snoc [] g = append-nil (g .categories)
@@ -102,15 +104,15 @@ references-snoc gs g =
     ∙ ap (λ k. k + length (g .categories)) (numbers-length gs)
 
 pub ranges-more : (gs : List Range) (g : Range) (n : ℕ) → 8 * length gs + 8 ≤ n
-    → patch (8 * length gs) (rowBytes (newRow gs g)) (padded n (rangeTable gs)) ≡ padded n (rangeTable (gs ++ (g ∷ [])))
+    → patch (8 * length gs) (slotBytes (newSlot gs g)) (padded n (rangeTable gs)) ≡ padded n (rangeTable (gs ++ (g ∷ [])))
 ranges-more gs g n h =
-    let e : length (rows 0 gs) ≡ length gs = rows-length 0 gs in
-    let a : 8 * length gs ≡ 8 * length (rows 0 gs) = omega arith in
+    let e : length (rangeSlots 0 gs) ≡ length gs = rows-length 0 gs in
+    let a : 8 * length gs ≡ 8 * length (rangeSlots 0 gs) = omega arith in
     let z : 0 + references gs ≡ references gs = omega arith in
-    ap (λ l. patch (8 * length gs) l (padded n (rangeTable gs))) (sym (append-nil (rowBytes (newRow gs g))))
-    ∙ entry-more 8 rowBytes wide-row (rows 0 gs) (newRow gs g ∷ []) (8 * length gs) n a (omega arith)
-    ∙ ap (λ l. padded n (joined (map rowBytes l)))
-      (sym (rows-snoc 0 gs g ∙ ap (λ k. rows 0 gs ++ (record { lower = g .lower; upper = g .upper; first = k; count = length (g .categories) } ∷ [])) z))
+    ap (λ l. patch (8 * length gs) l (padded n (rangeTable gs))) (sym (append-nil (slotBytes (newSlot gs g))))
+    ∙ entry-more 8 slotBytes wide-row (rangeSlots 0 gs) (newSlot gs g ∷ []) (8 * length gs) n a (omega arith)
+    ∙ ap (λ l. padded n (joined (map slotBytes l)))
+    (sym (rows-snoc 0 gs g ∙ ap (λ k. rangeSlots 0 gs ++ (record { lower = g .lower; upper = g .upper; first = k; count = length (g .categories) } ∷ [])) z))
 
 pub references-more : (gs : List Range) (g : Range) (n : ℕ) → 2 * references gs + 2 * length (g .categories) ≤ n
     → patch (2 * references gs) (joined (map (le 2) (g .categories))) (padded n (referenceTable gs)) ≡ padded n (referenceTable (gs ++ (g ∷ [])))

@@ -11,8 +11,11 @@ use lib.ListN.{length, take, drop, getD, length-append, length-drop, take-append
 use lib.Seq.{sets, sets-eq, drop-cons, take-at, drop-at, take-add, drop-drop, take-take, length-take-le, take-nil}
 use borrow.Author.Tests.{le-leb, lt-leb, leb-true}
 use mir.Facts.{and-yes, yes-and, ltb-yes, yes-eqb}
+use Rattle.paper.specs.Numbers.Bytes.{isByte}
 use Rattle.paper.specs.Lists.{all, joined}
-use Rattle.paper.specs.Tables.Layout.{le, value, num, got, patch, pieces}
+use Rattle.paper.specs.Numbers.Bytes.{le, value}
+use Rattle.paper.specs.Tables.Lent.{num, got, patch}
+use Rattle.paper.specs.Tables.Layout.{pieces}
 
 -- ---- numbers
 
@@ -25,9 +28,6 @@ value-le zero n h = omega arith
 value-le (suc w) n h =
     let e : value (le w (n / 256)) ≡ n / 256 = value-le w (n / 256) (div-lt-iff-lt-mul (omega arith) .1 (omega arith)) in
     omega arith
-
-abbrev pub isByte : ℕ → Bool
-isByte b = ltb b 256
 
 pub le-value : (bs : List ℕ) → T (all isByte bs) → le (length bs) (value bs) ≡ bs
 le-value [] t = refl
@@ -96,7 +96,7 @@ field-back v k p t h =
     let q : List ℕ = take v (drop k p) in
     let e : length (take v (drop k p)) ≡ v = length-take-le v (drop k p) (simp length-drop (omega arith)) in
     let f : le v (value (take v (drop k p))) ≡ take v (drop k p) =
-        ap (λ m. le m (value (take v (drop k p)))) (sym e) ∙ le-value (take v (drop k p)) (all-take isByte v (drop k p) (all-drop isByte k p t)) in
+    ap (λ m. le m (value (take v (drop k p)))) (sym e) ∙ le-value (take v (drop k p)) (all-take isByte v (drop k p) (all-drop isByte k p t)) in
     ap₂ (λ (a b : List ℕ). a ++ b) f (sym (drop-drop v k p)) ∙ take-append-drop v (drop k p)
 
 -- ---- entries of one width
@@ -120,8 +120,12 @@ module _ {A : Type 0} (w : ℕ) (f : A → List ℕ) (wide : (x : A) → length 
   pieces-table [] rest = refl
   pieces-table (x ∷ xs) rest =
       let l : List ℕ = joined (map f xs) ++ rest in
-      rw (append-assoc (f x) (joined (map f xs)) rest, take-at (f x) (joined (map f xs) ++ rest) w (wide x),
-          drop-at (f x) (joined (map f xs) ++ rest) w (wide x), pieces-table xs rest)
+      rw (
+        append-assoc (f x) (joined (map f xs)) rest,
+        take-at (f x) (joined (map f xs) ++ rest) w (wide x),
+        drop-at (f x) (joined (map f xs) ++ rest) w (wide x),
+        pieces-table xs rest,
+      )
 
   pub table-length : (xs : List A) → length (joined (map f xs)) ≡ w * length xs
   table-length [] = sym (mul-zero w)

@@ -6,7 +6,11 @@ use mathlib.Core.List.{List, _++_, map}
 use mathlib.Core.Option.{some}
 use lib.ListN.{length, replicate, length-map}
 use Rattle.paper.specs.CharDef.Reading.{Reading, Within, nameBytes, references}
-use Rattle.paper.specs.Tables.Layout.{le, padded, Tables, layout, behind, places, rows, placeBytes, definitionBytes, rowBytes, numbersOf, countsOf, PackRules, handedIn, inRoom}
+use Rattle.paper.specs.Numbers.Bytes.{le}
+use Rattle.paper.specs.Tables.Lent.{padded}
+use Rattle.paper.specs.Tables.Layout.{Tables, layout, behind, nameSlots, rangeSlots, nameSlotBytes, definitionBytes, slotBytes, numbersOf, countsOf, inRoom}
+use Rattle.paper.specs.Pack.Rules.{PackRules}
+use Rattle.paper.specs.Tables.HandedIn.{handedIn}
 use Rattle.paper.proofs.Tables.Laws.{table-length}
 use Rattle.paper.proofs.Tables.Trip.{tables-is, handed-in, joined-length, places-length, rows-length, numbers-length, wide-place, wide-definition, wide-row, wide-number}
 
@@ -50,12 +54,12 @@ unfolding layout nameBytes
 layout-fits r w =
     let a = joined-length (r .names) in
     let a′ = w .names-fit in
-    let b = table-length 4 placeBytes wide-place (places 0 (map length (r .names))) in
-    let b′ : length (places 0 (map length (r .names))) ≡ length (r .names) = places-length 0 (map length (r .names)) ∙ length-map (r .names) length in
+    let b = table-length 4 nameSlotBytes wide-place (nameSlots 0 (map length (r .names))) in
+    let b′ : length (nameSlots 0 (map length (r .names))) ≡ length (r .names) = places-length 0 (map length (r .names)) ∙ length-map (r .names) length in
     let b″ = w .categories-fit in
     let c = table-length 6 definitionBytes wide-definition (r .definitions) in
     let c′ = w .definitions-fit in
-    let d = table-length 8 rowBytes wide-row (rows 0 (r .ranges)) in
+    let d = table-length 8 slotBytes wide-row (rangeSlots 0 (r .ranges)) in
     let d′ = rows-length 0 (r .ranges) in
     let d″ = w .ranges-fit in
     let e = table-length 2 (le 2) wide-number (numbersOf (r .ranges)) in

@@ -10,13 +10,26 @@ use lib.ListN.{length, take, drop, getD, length-append, length-drop, length-map}
 use lib.Seq.{take-append-seam, drop-append-seam, take-add, length-take-le, drop-length}
 use mir.Facts.{and-yes, yes-and, leb-yes, yes-leb, ltb-yes, yes-ltb, eqb-yes, yes-eqb}
 use borrow.Author.Tests.{le-leb}
+use Rattle.paper.specs.Text.Scalar.{WellFormed}
+use Rattle.paper.specs.Pack.Rules.{isBound, formed, once, numbered, Each}
+use Rattle.paper.specs.Pack.Rules as rule
+use Rattle.paper.specs.Tables.HandedIn.{HoldTogether}
 use Rattle.paper.specs.Lists.{all, empty, joined, sum}
 use Rattle.paper.specs.CharDef.Reading.{Definition, Range, Reading, Within, nameBytes, references}
 use Rattle.paper.specs.Pack.Fields.{flag}
 use Rattle.paper.specs.declared.Counts.{Counts}
-use Rattle.paper.specs.Tables.Layout.{le, value, num, pieces, Place, Row, placeBytes, definitionBytes, rowBytes, placeOf, definitionOf, rowOf, places, rows, split, ranging, Tables, countsOf, numbersOf, layout, used, behind, bound, sound, newAfter, PackRules, enough, placesStand, rowsStand, flagged, placesIn, namesIn, rowsIn, numbersIn, decoded, holds, handedIn}
+use Rattle.paper.specs.Numbers.Bytes.{le, value}
+use Rattle.paper.specs.Tables.Lent.{num}
+use Rattle.paper.specs.Tables.Layout.{pieces, NameSlot, RangeSlot, nameSlotBytes, definitionBytes, slotBytes, nameSlotOf, definitionOf, slotOf, nameSlots, rangeSlots, split, ranging, Tables, countsOf, numbersOf, layout, used, behind}
+use Rattle.paper.specs.Pack.Rules.{PackRules}
+use Rattle.paper.specs.Tables.HandedIn.{enough, nameSlotsStand, slotsStand, flagged, nameSlotsIn, namesIn, slotsIn, numbersIn, decoded, holds, handedIn}
+use Rattle.paper.proofs.Lists.Facts.{all-append}
+use Rattle.paper.proofs.CharDef.Sound.{all-left, all-right}
+use Rattle.paper.proofs.Pack.Rules.{each-all, all-each, formed-is, is-formed}
+use Rattle.paper.proofs.Pack.Trip.{bound-bits}
 use Rattle.paper.proofs.Lists.Facts.{T→true, true→T}
-use Rattle.paper.proofs.Tables.Laws.{isByte, whole, field-back, pieces-table, table-length, pieces-length, joined-pieces, pieces-whole, all-take, all-drop, short, value-small, map-back, value-le}
+use Rattle.paper.proofs.Tables.Laws.{whole, field-back, pieces-table, table-length, pieces-length, joined-pieces, pieces-whole, all-take, all-drop, short, value-small, map-back, value-le}
+use Rattle.paper.specs.Numbers.Bytes.{isByte}
 
 -- the tests with their numbers written out
 is-lt : (a b : ℕ) → a < b → T (ltb a b)
@@ -52,10 +65,10 @@ two : (n : ℕ) → T (small n) → num 2 0 (le 2 n) ≡ n
 unfolding num small
 two n t = let h : n < 65536 = ltb-yes t in omega arith
 
-smallPlace : Place → Bool
+smallPlace : NameSlot → Bool
 smallPlace p = small (p .start) && small (p .len)
 
-place-there : (p : Place) → T (smallPlace p) → placeOf (placeBytes p) ≡ p
+place-there : (p : NameSlot) → T (smallPlace p) → nameSlotOf (nameSlotBytes p) ≡ p
 unfolding num small smallPlace
 place-there p t =
     let h = and-yes (ltb (p .start) 65536) (ltb (p .len) 65536) t in
@@ -78,14 +91,14 @@ definition-there d t =
     let a : value (le 4 (d .len)) ≡ d .len = value-le 4 (d .len) (ltb-yes t) in
     rw (flag-there (d .invoke), flag-there (d .group)) (ap (λ n. record { invoke = d .invoke; group = d .group; len = n }) a)
 
-smallRow : Row → Bool
+smallRow : RangeSlot → Bool
 smallRow r = small (r .lower) && (small (r .upper) && (small (r .first) && small (r .count)))
 
-row-is : (r : Row) (a b c d : ℕ) → a ≡ r .lower → b ≡ r .upper → c ≡ r .first → d ≡ r .count
-    → _≡_ {A = Row} (record { lower = a; upper = b; first = c; count = d }) r
+row-is : (r : RangeSlot) (a b c d : ℕ) → a ≡ r .lower → b ≡ r .upper → c ≡ r .first → d ≡ r .count
+    → _≡_ {A = RangeSlot} (record { lower = a; upper = b; first = c; count = d }) r
 row-is r a b c d e f g h = rw (e, f, g, h)
 
-row-there : (r : Row) → T (smallRow r) → rowOf (rowBytes r) ≡ r
+row-there : (r : RangeSlot) → T (smallRow r) → slotOf (slotBytes r) ≡ r
 unfolding num small smallRow
 row-there r t =
     let h = and-yes (small (r .lower)) _ t in
@@ -98,20 +111,20 @@ last-back : (v k : ℕ) (p : List ℕ) → T (all isByte p) → length p ≡ k +
 last-back v k p t e =
     sym (append-nil (le v (num v k p))) ∙ ap (λ l. le v (num v k p) ++ l) (sym (ap (λ m. drop m p) (sym e) ∙ drop-length p)) ∙ field-back v k p t (omega arith)
 
-place-back : (p : List ℕ) → T (whole 4 p) → placeBytes (placeOf p) ≡ p
+place-back : (p : List ℕ) → T (whole 4 p) → nameSlotBytes (nameSlotOf p) ≡ p
 place-back p t =
     let h = and-yes (eqb (length p) 4) (all isByte p) t in
     let e : length p ≡ 4 = eqb-yes (h .0) in
     ap (λ l. le 2 (num 2 0 p) ++ l) (last-back 2 2 p (h .1) e) ∙ field-back 2 0 p (h .1) (omega arith)
 
-row-back : (p : List ℕ) → T (whole 8 p) → rowBytes (rowOf p) ≡ p
+row-back : (p : List ℕ) → T (whole 8 p) → slotBytes (slotOf p) ≡ p
 row-back p t =
     let h = and-yes (eqb (length p) 8) (all isByte p) t in
     let e : length p ≡ 8 = eqb-yes (h .0) in
     ap (λ l. le 2 (num 2 0 p) ++ l)
-      (ap (λ l. le 2 (num 2 2 p) ++ l)
-        (ap (λ l. le 2 (num 2 4 p) ++ l) (last-back 2 6 p (h .1) e) ∙ field-back 2 4 p (h .1) (omega arith))
-        ∙ field-back 2 2 p (h .1) (omega arith))
+    (ap (λ l. le 2 (num 2 2 p) ++ l)
+    (ap (λ l. le 2 (num 2 4 p) ++ l) (last-back 2 6 p (h .1) e) ∙ field-back 2 4 p (h .1) (omega arith))
+    ∙ field-back 2 2 p (h .1) (omega arith))
     ∙ field-back 2 0 p (h .1) (omega arith)
 
 number-back : (p : List ℕ) → T (whole 2 p) → le 2 (num 2 0 p) ≡ p
@@ -168,26 +181,26 @@ split-lengths [] l h = refl
 split-lengths (n ∷ ns) l h =
     ap₂ (λ a b. a ∷ b) (length-take-le n l (omega arith)) (split-lengths ns (drop n l) (simp length-drop (omega arith)))
 
-places-lens : (at : ℕ) (ns : List ℕ) → map (λ p. p .len) (places at ns) ≡ ns
-unfolding places
+places-lens : (at : ℕ) (ns : List ℕ) → map (λ p. p .len) (nameSlots at ns) ≡ ns
+unfolding nameSlots
 places-lens at [] = refl
 places-lens at (n ∷ ns) = ap (λ l. n ∷ l) (places-lens (at + n) ns)
 
-pub places-length : (at : ℕ) (ns : List ℕ) → length (places at ns) ≡ length ns
-unfolding places
+pub places-length : (at : ℕ) (ns : List ℕ) → length (nameSlots at ns) ≡ length ns
+unfolding nameSlots
 places-length at [] = refl
 places-length at (n ∷ ns) = ap suc (places-length (at + n) ns)
 
-places-small : (at : ℕ) (ns : List ℕ) → at + sum ns < 65536 → T (all smallPlace (places at ns))
-unfolding places small smallPlace
+places-small : (at : ℕ) (ns : List ℕ) → at + sum ns < 65536 → T (all smallPlace (nameSlots at ns))
+unfolding nameSlots small smallPlace
 places-small at [] h = tt
 places-small at (n ∷ ns) h =
     yes-and (ltb at 65536 && ltb n 65536) _ (yes-and (ltb at 65536) (ltb n 65536) (is-lt at 65536 (omega arith)) (is-lt n 65536 (omega arith)))
     (places-small (at + n) ns (omega arith))
 
 places-stand : (total at : ℕ) (xs : List (List ℕ)) → T (all (λ x. not (empty x)) xs) → at + sum (map length xs) ≡ total
-    → T (placesStand total at (places at (map length xs)))
-unfolding placesStand places
+    → T (nameSlotsStand total at (nameSlots at (map length xs)))
+unfolding nameSlotsStand nameSlots
 places-stand total at [] t e = is-eq at total (omega arith)
 places-stand total at (x ∷ xs) t e =
     let h = and-yes (not (empty x)) (all (λ y. not (empty y)) xs) t in
@@ -199,115 +212,119 @@ places-stand total at (x ∷ xs) t e =
     filled [] t = absurd t
     filled (a ∷ x) t = omega arith
 
-record Standing (total at : ℕ) (ps : List Place) : Type 0 where
-  again-places : places at (map (λ p. p .len) ps) ≡ ps
+record Standing (total at : ℕ) (ps : List NameSlot) : Type 0 where
+  again-places : nameSlots at (map (λ p. p .len) ps) ≡ ps
   adds-up : at + sum (map (λ p. p .len) ps) ≡ total
   none-empty : T (all (λ n. ltb 0 n) (map (λ p. p .len) ps))
 
-standing : (total at : ℕ) (ps : List Place) → T (placesStand total at ps) → Standing total at ps
-unfolding placesStand places
+standing : (total at : ℕ) (ps : List NameSlot) → T (nameSlotsStand total at ps) → Standing total at ps
+unfolding nameSlotsStand nameSlots
 standing total at [] t = let e : at ≡ total = eqb-yes t in record { again-places = refl; adds-up = omega arith; none-empty = tt }
 standing total at (p ∷ ps) t =
     let h = and-yes (eqb (p .start) at) _ t in
     let i = and-yes (ltb 0 (p .len)) _ (h .1) in
-    let j = and-yes (leb (at + p .len) total) (placesStand total (at + p .len) ps) (i .1) in
+    let j = and-yes (leb (at + p .len) total) (nameSlotsStand total (at + p .len) ps) (i .1) in
     let s = standing total (at + p .len) ps (j .1) in
     let e : p .start ≡ at = eqb-yes (h .0) in
     record {
-      again-places = ap₂ (λ (a : Place) (l : List Place). a ∷ l) (ap (λ (a : ℕ). record { start = a; len = p .len }) (sym e)) (s .again-places);
+      again-places = ap₂ (λ (a : NameSlot) (l : List NameSlot). a ∷ l) (ap (λ (a : ℕ). record { start = a; len = p .len }) (sym e)) (s .again-places);
       adds-up = let k = s .adds-up in omega arith;
-      none-empty = yes-and (ltb 0 (p .len)) _ (i .0) (s .none-empty)
+      none-empty = yes-and (ltb 0 (p .len)) _ (i .0) (s .none-empty);
     }
 
 -- ---- ranges
 
-pub rows-length : (at : ℕ) (gs : List Range) → length (rows at gs) ≡ length gs
-unfolding rows
+pub rows-length : (at : ℕ) (gs : List Range) → length (rangeSlots at gs) ≡ length gs
+unfolding rangeSlots
 rows-length at [] = refl
 rows-length at (g ∷ gs) = ap suc (rows-length (at + length (g .categories)) gs)
 
 bounded : Range → Bool
-bounded g = bound (g .lower) && bound (g .upper)
+bounded g = isBound (g .lower) && isBound (g .upper)
 
-bound-small : (a : ℕ) → T (bound a) → T (small a)
-unfolding bound small
-bound-small a t = let h : a ≤ 0xFFFF = leb-yes (and-yes (leb a 0xFFFF) _ t .0) in is-lt a 65536 (omega arith)
+bound-small : (a : ℕ) → T (isBound a) → T (small a)
+unfolding small
+bound-small a t = is-lt a 65536 (bound-bits a t)
 
 less : (n : ℕ) → n < 65536 → T (small n)
 unfolding small
 less n h = yes-ltb h
 
-rows-small : (at : ℕ) (gs : List Range) → T (all bounded gs) → at + references gs < 65536 → T (all smallRow (rows at gs))
-unfolding rows smallRow bounded references
+rows-small : (at : ℕ) (gs : List Range) → T (all bounded gs) → at + references gs < 65536 → T (all smallRow (rangeSlots at gs))
+unfolding rangeSlots smallRow bounded references
 rows-small at [] t h = tt
 rows-small at (g ∷ gs) t h =
     let i = and-yes (bounded g) (all bounded gs) t in
-    let j = and-yes (bound (g .lower)) (bound (g .upper)) (i .0) in
+    let j = and-yes (isBound (g .lower)) (isBound (g .upper)) (i .0) in
     yes-and (smallRow (record { lower = g .lower; upper = g .upper; first = at; count = length (g .categories) })) _
     (yes-and (small (g .lower)) _ (bound-small (g .lower) (j .0))
     (yes-and (small (g .upper)) _ (bound-small (g .upper) (j .1))
     (yes-and (small at) (small (length (g .categories))) (less at (omega arith)) (less (length (g .categories)) (omega arith)))))
     (rows-small (at + length (g .categories)) gs (i .1) (omega arith))
 
-rows-stand : (total at : ℕ) (gs : List Range) → T (all bounded gs) → at + references gs ≡ total → T (rowsStand total at (rows at gs))
-unfolding rowsStand rows bounded references
+rows-stand : (total at : ℕ) (gs : List Range) → T (all bounded gs) → at + references gs ≡ total → T (slotsStand total at (rangeSlots at gs))
+unfolding slotsStand rangeSlots bounded references
 rows-stand total at [] t e = is-eq at total (omega arith)
 rows-stand total at (g ∷ gs) t e =
     let i = and-yes (bounded g) (all bounded gs) t in
-    let j = and-yes (bound (g .lower)) (bound (g .upper)) (i .0) in
+    let j = and-yes (isBound (g .lower)) (isBound (g .upper)) (i .0) in
     yes-and (eqb at at) _ (is-eq at at refl)
-    (yes-and (bound (g .lower)) _ (j .0)
-    (yes-and (bound (g .upper)) _ (j .1)
+    (yes-and (isBound (g .lower)) _ (j .0)
+    (yes-and (isBound (g .upper)) _ (j .1)
     (yes-and (leb (at + length (g .categories)) total) _ (is-le (at + length (g .categories)) total (omega arith)) (rows-stand total (at + length (g .categories)) gs (i .1) (omega arith)))))
 
-ranging-rows : (at : ℕ) (gs : List Range) (rest : List ℕ) → ranging (rows at gs) (numbersOf gs ++ rest) ≡ gs
-unfolding ranging rows
+ranging-rows : (at : ℕ) (gs : List Range) (rest : List ℕ) → ranging (rangeSlots at gs) (numbersOf gs ++ rest) ≡ gs
+unfolding ranging rangeSlots
 ranging-rows at [] rest = refl
 ranging-rows at (g ∷ gs) rest =
-    rw (append-assoc (g .categories) (numbersOf gs) rest, take-append-seam (g .categories) (numbersOf gs ++ rest),
-        drop-append-seam (g .categories) (numbersOf gs ++ rest), ranging-rows (at + length (g .categories)) gs rest)
+    rw (
+      append-assoc (g .categories) (numbersOf gs) rest,
+      take-append-seam (g .categories) (numbersOf gs ++ rest),
+      drop-append-seam (g .categories) (numbersOf gs ++ rest),
+      ranging-rows (at + length (g .categories)) gs rest,
+    )
 
 pub numbers-length : (gs : List Range) → length (numbersOf gs) ≡ references gs
 unfolding references
 numbers-length [] = refl
 numbers-length (g ∷ gs) = length-append (g .categories) (numbersOf gs) ∙ ap (λ m. length (g .categories) + m) (numbers-length gs)
 
-record Ranged (at : ℕ) (rs : List Row) (l : List ℕ) : Type 0 where
-  again-rows : rows at (ranging rs l) ≡ rs
+record Ranged (at : ℕ) (rs : List RangeSlot) (l : List ℕ) : Type 0 where
+  again-rows : rangeSlots at (ranging rs l) ≡ rs
   again-numbers : numbersOf (ranging rs l) ≡ l
   in-bounds : T (all bounded (ranging rs l))
   as-many : length (ranging rs l) ≡ length rs
 
-ranged : (total at : ℕ) (rs : List Row) (l : List ℕ) → T (rowsStand total at rs) → at + length l ≡ total → Ranged at rs l
-unfolding rowsStand rows ranging bounded
+ranged : (total at : ℕ) (rs : List RangeSlot) (l : List ℕ) → T (slotsStand total at rs) → at + length l ≡ total → Ranged at rs l
+unfolding slotsStand rangeSlots ranging bounded
 ranged total at [] [] t e = record { again-rows = refl; again-numbers = refl; in-bounds = tt; as-many = refl }
 ranged total at [] (x ∷ l) t e = absurd (let d : at ≡ total = eqb-yes t in omega arith)
 ranged total at (r ∷ rs) l t e =
     let h = and-yes (eqb (r .first) at) _ t in
-    let i = and-yes (bound (r .lower)) _ (h .1) in
-    let j = and-yes (bound (r .upper)) _ (i .1) in
-    let k = and-yes (leb (at + r .count) total) (rowsStand total (at + r .count) rs) (j .1) in
+    let i = and-yes (isBound (r .lower)) _ (h .1) in
+    let j = and-yes (isBound (r .upper)) _ (i .1) in
+    let k = and-yes (leb (at + r .count) total) (slotsStand total (at + r .count) rs) (j .1) in
     let le : at + r .count ≤ total = leb-yes (k .0) in
     let d : r .first ≡ at = eqb-yes (h .0) in
     let n : length (take (r .count) l) ≡ r .count = length-take-le (r .count) l (omega arith) in
     let s = ranged total (at + r .count) rs (drop (r .count) l) (k .1) (simp length-drop (omega arith)) in
     record {
-      again-rows = ap₂ (λ (a : Row) (b : List Row). a ∷ b) (row-is r _ _ _ _ refl refl (sym d) n)
-        (ap (λ (m : ℕ). rows (at + m) (ranging rs (drop (r .count) l))) n ∙ s .again-rows);
+      again-rows = ap₂ (λ (a : RangeSlot) (b : List RangeSlot). a ∷ b) (row-is r _ _ _ _ refl refl (sym d) n)
+          (ap (λ (m : ℕ). rangeSlots (at + m) (ranging rs (drop (r .count) l))) n ∙ s .again-rows);
       again-numbers = ap (λ (m : List ℕ). take (r .count) l ++ m) (s .again-numbers) ∙ lib.ListN.take-append-drop (r .count) l;
-      in-bounds = yes-and (bound (r .lower) && bound (r .upper)) _ (yes-and (bound (r .lower)) (bound (r .upper)) (i .0) (j .0)) (s .in-bounds);
-      as-many = ap suc (s .as-many)
+      in-bounds = yes-and (isBound (r .lower) && isBound (r .upper)) _ (yes-and (isBound (r .lower)) (isBound (r .upper)) (i .0) (j .0)) (s .in-bounds);
+      as-many = ap suc (s .as-many);
     }
 
 -- ---- a reading's tables, with anything behind them, are that reading
 
-pub wide-place : (p : Place) → length (placeBytes p) ≡ 4
+pub wide-place : (p : NameSlot) → length (nameSlotBytes p) ≡ 4
 wide-place p = refl
 
 pub wide-definition : (d : Definition) → length (definitionBytes d) ≡ 6
 wide-definition d = refl
 
-pub wide-row : (r : Row) → length (rowBytes r) ≡ 8
+pub wide-row : (r : RangeSlot) → length (slotBytes r) ≡ 8
 wide-row r = refl
 
 pub wide-number : (n : ℕ) → length (le 2 n) ≡ 2
@@ -334,19 +351,66 @@ pub joined-length : (xs : List (List ℕ)) → length (joined xs) ≡ sum (map l
 joined-length [] = refl
 joined-length (x ∷ xs) = length-append x (joined xs) ∙ ap (λ m. length x + m) (joined-length xs)
 
-module _ (r : Reading) (x : Tables) (ok : PackRules r) where
+-- the rules as the tests of tables have them
+record Kept (r : Reading) : Type 0 where
+  within : Within r
+  some-byte : T (all (λ n. not (empty n)) (r .names))
+  well : T (all formed (r .names))
+  single : T (once (r .names))
+  lengths : T (all (λ d. ltb (d .len) 4294967296) (r .definitions))
+  bounds : T (all (λ g. isBound (g .lower) && isBound (g .upper)) (r .ranges))
+  known : T (all (λ c. ltb c (length (r .names))) (numbersOf (r .ranges)))
+
+known-apart : (p : ℕ → Bool) (gs : List Range) → T (all (λ g. all p (g .categories)) gs) → T (all p (numbersOf gs))
+known-apart p [] t = tt
+known-apart p (g ∷ gs) t =
+    let h = and-yes (all p (g .categories)) _ t in
+    all-append p (g .categories) (numbersOf gs) (h .0) (known-apart p gs (h .1))
+
+known-together : (p : ℕ → Bool) (gs : List Range) → T (all p (numbersOf gs)) → T (all (λ g. all p (g .categories)) gs)
+known-together p [] t = tt
+known-together p (g ∷ gs) t =
+    yes-and (all p (g .categories)) _ (all-left p (g .categories) (numbersOf gs) t) (known-together p gs (all-right p (g .categories) (numbersOf gs) t))
+
+keeps : (r : Reading) → PackRules r → Kept r
+unfolding rule.bounded numbered
+keeps r k =
+    record {
+      within = k .limits;
+      some-byte = k .names-some;
+      well = each-all WellFormed formed is-formed (r .names) (k .names-formed);
+      single = k .names-once;
+      lengths = k .lengths;
+      bounds = k .bounds;
+      known = known-apart (λ c. ltb c (length (r .names))) (r .ranges) (k .known);
+    }
+
+kept : (r : Reading) → Kept r → PackRules r
+unfolding rule.bounded numbered
+kept r k =
+    record {
+      limits = k .within;
+      names-some = k .some-byte;
+      names-formed = all-each WellFormed formed formed-is (r .names) (k .well);
+      names-once = k .single;
+      lengths = k .lengths;
+      bounds = k .bounds;
+      known = known-together (λ c. ltb c (length (r .names))) (r .ranges) (k .known);
+    }
+
+module _ (r : Reading) (x : Tables) (ok : Kept r) where
   t : Tables
   t = behind (layout r) x
 
   n : Counts
   n = countsOf r
 
-  places-in : placesIn t n ≡ places 0 (map length (r .names))
-  unfolding placesIn t n behind layout countsOf nameBytes
+  places-in : nameSlotsIn t n ≡ nameSlots 0 (map length (r .names))
+  unfolding nameSlotsIn t n behind layout countsOf nameBytes
   places-in =
       let w = ok .within in
       let h : sum (map length (r .names)) ≤ 16384 = w .names-fit in
-      there 4 placeBytes placeOf wide-place smallPlace place-there (places 0 (map length (r .names))) (length (r .names)) (x .categories)
+      there 4 nameSlotBytes nameSlotOf wide-place smallPlace place-there (nameSlots 0 (map length (r .names))) (length (r .names)) (x .categories)
       (places-length 0 (map length (r .names)) ∙ length-map (r .names) length) (places-small 0 (map length (r .names)) (omega arith))
 
   names-in : namesIn t n ≡ r .names
@@ -360,12 +424,12 @@ module _ (r : Reading) (x : Tables) (ok : PackRules r) where
   unfolding t n behind layout countsOf smallDefinition
   definitions-in = there 6 definitionBytes definitionOf wide-definition smallDefinition definition-there (r .definitions) (length (r .definitions)) (x .definitions) refl (ok .lengths)
 
-  rows-in : rowsIn t n ≡ rows 0 (r .ranges)
-  unfolding rowsIn t n behind layout countsOf bounded
+  rows-in : slotsIn t n ≡ rangeSlots 0 (r .ranges)
+  unfolding slotsIn t n behind layout countsOf bounded
   rows-in =
       let w = ok .within in
       let h : references (r .ranges) ≤ 8192 = w .references-fit in
-      there 8 rowBytes rowOf wide-row smallRow row-there (rows 0 (r .ranges)) (length (r .ranges)) (x .ranges)
+      there 8 slotBytes slotOf wide-row smallRow row-there (rangeSlots 0 (r .ranges)) (length (r .ranges)) (x .ranges)
       (rows-length 0 (r .ranges)) (rows-small 0 (r .ranges) (ok .bounds) (omega arith))
 
   numbers-in : numbersIn t n ≡ numbersOf (r .ranges)
@@ -376,7 +440,7 @@ module _ (r : Reading) (x : Tables) (ok : PackRules r) where
       there 2 (le 2) (num 2 0) wide-number small two (numbersOf (r .ranges)) (references (r .ranges)) (x .references)
       (numbers-length (r .ranges)) (all-lt (length (r .names)) (numbersOf (r .ranges)) (omega arith) (ok .known))
 
-  ranges-in : ranging (rowsIn t n) (numbersIn t n) ≡ r .ranges
+  ranges-in : ranging (slotsIn t n) (numbersIn t n) ≡ r .ranges
   ranges-in =
       ap₂ ranging rows-in (numbers-in ∙ sym (append-nil (numbersOf (r .ranges)))) ∙ ranging-rows 0 (r .ranges) []
 
@@ -400,16 +464,16 @@ module _ (r : Reading) (x : Tables) (ok : PackRules r) where
       let b : length (joined (r .names)) ≡ sum (map length (r .names)) = joined-length (r .names) in
       both (le-leb _ _ (w .categories-fit)) (both (le-leb _ _ (w .names-fit)) (both (le-leb _ _ (w .definitions-fit)) (both (le-leb _ _ (w .ranges-fit)) (both (le-leb _ _ (w .references-fit))
       (both (le-leb (sum (map length (r .names))) (length (joined (r .names) ++ x .names)) (omega arith))
-      (both (le-leb _ _ (room 4 placeBytes wide-place (places 0 (map length (r .names))) (length (r .names)) (x .categories) (places-length 0 (map length (r .names)) ∙ length-map (r .names) length)))
+      (both (le-leb _ _ (room 4 nameSlotBytes wide-place (nameSlots 0 (map length (r .names))) (length (r .names)) (x .categories) (places-length 0 (map length (r .names)) ∙ length-map (r .names) length)))
       (both (le-leb _ _ (room 6 definitionBytes wide-definition (r .definitions) (length (r .definitions)) (x .definitions) refl))
-      (both (le-leb _ _ (room 8 rowBytes wide-row (rows 0 (r .ranges)) (length (r .ranges)) (x .ranges) (rows-length 0 (r .ranges))))
-      (le-leb _ _ (room 2 (le 2) wide-number (numbersOf (r .ranges)) (references (r .ranges)) (x .references) (numbers-length (r .ranges)))))))))))) 
+      (both (le-leb _ _ (room 8 slotBytes wide-row (rangeSlots 0 (r .ranges)) (length (r .ranges)) (x .ranges) (rows-length 0 (r .ranges))))
+      (le-leb _ _ (room 2 (le 2) wide-number (numbersOf (r .ranges)) (references (r .ranges)) (x .references) (numbers-length (r .ranges))))))))))))
 
-  stand : T (placesStand (n .bytes) 0 (places 0 (map length (r .names))))
+  stand : T (nameSlotsStand (n .bytes) 0 (nameSlots 0 (map length (r .names))))
   unfolding n countsOf nameBytes
   stand = places-stand (sum (map length (r .names))) 0 (r .names) (ok .some-byte) (omega arith)
 
-  stand-rows : T (rowsStand (n .references) 0 (rows 0 (r .ranges)))
+  stand-rows : T (slotsStand (n .references) 0 (rangeSlots 0 (r .ranges)))
   unfolding n countsOf bounded
   stand-rows = rows-stand (references (r .ranges)) 0 (r .ranges) (ok .bounds) (omega arith)
 
@@ -421,16 +485,16 @@ module _ (r : Reading) (x : Tables) (ok : PackRules r) where
   unfolding holds
   holds-in =
       both enough-in
-      (both (ap (placesStand (n .bytes) 0) places-in ∙ T→true _ stand)
+      (both (ap (nameSlotsStand (n .bytes) 0) places-in ∙ T→true _ stand)
       (both (T→true (all flagged (pieces 6 (n .definitions) (t .definitions))) flags-in)
-      (both (ap (rowsStand (n .references) 0) rows-in ∙ T→true _ stand-rows)
+      (both (ap (slotsStand (n .references) 0) rows-in ∙ T→true _ stand-rows)
       (both (ap (all (λ c. ltb c (n .categories))) numbers-in ∙ T→true _ known-in)
-      (both (ap (all sound) names-in ∙ T→true _ (ok .well)) (ap (newAfter []) names-in ∙ T→true _ (ok .once)))))))
+      (both (ap (all formed) names-in ∙ T→true _ (ok .well)) (ap (once) names-in ∙ T→true _ (ok .single)))))))
 
 -- the law
 pub handed-in : (r : Reading) (x : Tables) → PackRules r → handedIn (behind (layout r) x) (countsOf r) ≡ some r
 unfolding handedIn decoded t n
-handed-in r x ok = rw (holds-in r x ok, names-in r x ok, definitions-in r x ok, ranges-in r x ok)
+handed-in r x k = let ok = keeps r k in rw (holds-in r x ok, names-in r x ok, definitions-in r x ok, ranges-in r x ok)
 
 -- ---- tables that are handed in are the layout of their reading
 
@@ -466,29 +530,35 @@ says a b c d e n t =
       for-categories = leb-yes (t7 .0);
       for-definitions = leb-yes (t8 .0);
       for-ranges = leb-yes (t9 .0);
-      for-references = leb-yes (t9 .1)
+      for-references = leb-yes (t9 .1);
     }
 
 record Parts (t : Tables) (n : Counts) : Type 0 where
   long : Enough (length (t .names)) (length (t .categories)) (length (t .definitions)) (length (t .ranges)) (length (t .references)) n
-  placed : T (placesStand (n .bytes) 0 (placesIn t n))
+  placed : T (nameSlotsStand (n .bytes) 0 (nameSlotsIn t n))
   flags : T (all flagged (pieces 6 (n .definitions) (t .definitions)))
-  rowed : T (rowsStand (n .references) 0 (rowsIn t n))
+  rowed : T (slotsStand (n .references) 0 (slotsIn t n))
   known : T (all (λ c. ltb c (n .categories)) (numbersIn t n))
-  well : T (all sound (namesIn t n))
-  once : T (newAfter [] (namesIn t n))
+  well : T (all formed (namesIn t n))
+  single : T (once (namesIn t n))
 
 parts : (t : Tables) (n : Counts) → T (holds t n) → Parts t n
 unfolding holds
 parts t n h =
     let h1 = and-yes (enough (length (t .names)) (length (t .categories)) (length (t .definitions)) (length (t .ranges)) (length (t .references)) n) _ h in
-    let h2 = and-yes (placesStand (n .bytes) 0 (placesIn t n)) _ (h1 .1) in
+    let h2 = and-yes (nameSlotsStand (n .bytes) 0 (nameSlotsIn t n)) _ (h1 .1) in
     let h3 = and-yes (all flagged (pieces 6 (n .definitions) (t .definitions))) _ (h2 .1) in
-    let h4 = and-yes (rowsStand (n .references) 0 (rowsIn t n)) _ (h3 .1) in
+    let h4 = and-yes (slotsStand (n .references) 0 (slotsIn t n)) _ (h3 .1) in
     let h5 = and-yes (all (λ c. ltb c (n .categories)) (numbersIn t n)) _ (h4 .1) in
-    let h6 = and-yes (all sound (namesIn t n)) (newAfter [] (namesIn t n)) (h5 .1) in
+    let h6 = and-yes (all formed (namesIn t n)) (once (namesIn t n)) (h5 .1) in
     record {
-      long = says _ _ _ _ _ n (h1 .0); placed = h2 .0; flags = h3 .0; rowed = h4 .0; known = h5 .0; well = h6 .0; once = h6 .1
+      long = says _ _ _ _ _ n (h1 .0);
+      placed = h2 .0;
+      flags = h3 .0;
+      rowed = h4 .0;
+      known = h5 .0;
+      well = h6 .0;
+      single = h6 .1;
     }
 
 all-both : {A : Type 0} (p q : A → Bool) (l : List A) → T (all p l) → T (all q l) → T (all (λ x. p x && q x) l)
@@ -521,7 +591,7 @@ within-from r n e k =
     let f : nameBytes (r .names) ≡ n .bytes = ap (λ m. m .bytes) e in
     record { categories-fit = omega arith; names-fit = omega arith; definitions-fit = omega arith; ranges-fit = omega arith; references-fit = omega arith }
 
-as-bounded : (gs : List Range) → T (all bounded gs) → T (all (λ g. bound (g .lower) && bound (g .upper)) gs)
+as-bounded : (gs : List Range) → T (all bounded gs) → T (all (λ g. isBound (g .lower) && isBound (g .upper)) gs)
 unfolding bounded
 as-bounded gs t = t
 
@@ -534,31 +604,31 @@ lengths-small (suc n) l t =
     (lengths-small n (drop 6 l) (all-drop isByte 6 l t))
 
 module _ (t : Tables) (n : Counts) (b : Bytes t) (h : Parts t n) where
-  names-lens : map length (namesIn t n) ≡ map (λ p. p .len) (placesIn t n)
+  names-lens : map length (namesIn t n) ≡ map (λ p. p .len) (nameSlotsIn t n)
   unfolding namesIn
   names-lens =
-      let s = standing (n .bytes) 0 (placesIn t n) (h .placed) in
+      let s = standing (n .bytes) 0 (nameSlotsIn t n) (h .placed) in
       let e = s .adds-up in
       let k = h .long .for-names in
-      split-lengths (map (λ p. p .len) (placesIn t n)) (t .names) (omega arith)
+      split-lengths (map (λ p. p .len) (nameSlotsIn t n)) (t .names) (omega arith)
 
   used-names : joined (namesIn t n) ≡ take (n .bytes) (t .names)
   unfolding namesIn
   used-names =
-      let s = standing (n .bytes) 0 (placesIn t n) (h .placed) in
+      let s = standing (n .bytes) 0 (nameSlotsIn t n) (h .placed) in
       let d = s .adds-up in
-      let e : sum (map (λ p. p .len) (placesIn t n)) ≡ n .bytes = omega arith in
-      joined-split (map (λ p. p .len) (placesIn t n)) (t .names) ∙ ap (λ m. take m (t .names)) e
+      let e : sum (map (λ p. p .len) (nameSlotsIn t n)) ≡ n .bytes = omega arith in
+      joined-split (map (λ p. p .len) (nameSlotsIn t n)) (t .names) ∙ ap (λ m. take m (t .names)) e
 
-  used-categories : joined (map placeBytes (places 0 (map length (namesIn t n)))) ≡ take (4 * n .categories) (t .categories)
-  unfolding placesIn
+  used-categories : joined (map nameSlotBytes (nameSlots 0 (map length (namesIn t n)))) ≡ take (4 * n .categories) (t .categories)
+  unfolding nameSlotsIn
   used-categories =
-      ap (λ l. joined (map placeBytes (places 0 l))) names-lens
-      ∙ ap (λ l. joined (map placeBytes l)) (standing (n .bytes) 0 (placesIn t n) (h .placed) .again-places)
+      ap (λ l. joined (map nameSlotBytes (nameSlots 0 l))) names-lens
+      ∙ ap (λ l. joined (map nameSlotBytes l)) (standing (n .bytes) 0 (nameSlotsIn t n) (h .placed) .again-places)
       ∙ go
     where
-      go : joined (map placeBytes (placesIn t n)) ≡ take (4 * n .categories) (t .categories)
-      go = again 4 placeBytes placeOf (whole 4) place-back (n .categories) (t .categories)
+      go : joined (map nameSlotBytes (nameSlotsIn t n)) ≡ take (4 * n .categories) (t .categories)
+      go = again 4 nameSlotBytes nameSlotOf (whole 4) place-back (n .categories) (t .categories)
           (pieces-whole 4 (n .categories) (t .categories) (b .in-categories) (h .long .for-categories))
 
   used-definitions : joined (map definitionBytes (map definitionOf (pieces 6 (n .definitions) (t .definitions)))) ≡ take (6 * n .definitions) (t .definitions)
@@ -567,58 +637,58 @@ module _ (t : Tables) (n : Counts) (b : Bytes t) (h : Parts t n) where
       (all-both (whole 6) flagged (pieces 6 (n .definitions) (t .definitions))
       (pieces-whole 6 (n .definitions) (t .definitions) (b .in-definitions) (h .long .for-definitions)) (h .flags))
 
-  ranges-are : Ranged 0 (rowsIn t n) (numbersIn t n)
+  ranges-are : Ranged 0 (slotsIn t n) (numbersIn t n)
   unfolding numbersIn
   ranges-are =
       let e : length (map (num 2 0) (pieces 2 (n .references) (t .references))) ≡ n .references =
-          length-map (pieces 2 (n .references) (t .references)) (num 2 0) ∙ pieces-length 2 (n .references) (t .references) in
-      ranged (n .references) 0 (rowsIn t n) (numbersIn t n) (h .rowed) (omega arith)
+      length-map (pieces 2 (n .references) (t .references)) (num 2 0) ∙ pieces-length 2 (n .references) (t .references) in
+      ranged (n .references) 0 (slotsIn t n) (numbersIn t n) (h .rowed) (omega arith)
 
-  used-ranges : joined (map rowBytes (rows 0 (ranging (rowsIn t n) (numbersIn t n)))) ≡ take (8 * n .ranges) (t .ranges)
-  unfolding rowsIn
+  used-ranges : joined (map slotBytes (rangeSlots 0 (ranging (slotsIn t n) (numbersIn t n)))) ≡ take (8 * n .ranges) (t .ranges)
+  unfolding slotsIn
   used-ranges =
-      ap (λ l. joined (map rowBytes l)) (ranges-are .again-rows)
-      ∙ again 8 rowBytes rowOf (whole 8) row-back (n .ranges) (t .ranges)
-        (pieces-whole 8 (n .ranges) (t .ranges) (b .in-ranges) (h .long .for-ranges))
+      ap (λ l. joined (map slotBytes l)) (ranges-are .again-rows)
+      ∙ again 8 slotBytes slotOf (whole 8) row-back (n .ranges) (t .ranges)
+      (pieces-whole 8 (n .ranges) (t .ranges) (b .in-ranges) (h .long .for-ranges))
 
-  used-references : joined (map (le 2) (numbersOf (ranging (rowsIn t n) (numbersIn t n)))) ≡ take (2 * n .references) (t .references)
+  used-references : joined (map (le 2) (numbersOf (ranging (slotsIn t n) (numbersIn t n)))) ≡ take (2 * n .references) (t .references)
   unfolding numbersIn
   used-references =
       ap (λ l. joined (map (le 2) l)) (ranges-are .again-numbers)
       ∙ again 2 (le 2) (num 2 0) (whole 2) number-back (n .references) (t .references)
-        (pieces-whole 2 (n .references) (t .references) (b .in-references) (h .long .for-references))
+      (pieces-whole 2 (n .references) (t .references) (b .in-references) (h .long .for-references))
 
   -- the counts are the reading's
   counts-are : countsOf (decoded t n) ≡ n
-  unfolding countsOf decoded nameBytes rowsIn placesIn
+  unfolding countsOf decoded nameBytes slotsIn nameSlotsIn
   counts-are =
-      let s = standing (n .bytes) 0 (placesIn t n) (h .placed) in
+      let s = standing (n .bytes) 0 (nameSlotsIn t n) (h .placed) in
       let adds = s .adds-up in
-      let sums : sum (map length (namesIn t n)) ≡ sum (map (λ p. p .len) (placesIn t n)) = ap sum names-lens in
-      let many : length (map length (namesIn t n)) ≡ length (map (λ p. p .len) (placesIn t n)) = ap length names-lens in
+      let sums : sum (map length (namesIn t n)) ≡ sum (map (λ p. p .len) (nameSlotsIn t n)) = ap sum names-lens in
+      let many : length (map length (namesIn t n)) ≡ length (map (λ p. p .len) (nameSlotsIn t n)) = ap length names-lens in
       let e1 = length-map (namesIn t n) length in
-      let e2 = length-map (placesIn t n) (λ p. p .len) in
-      let e3 = length-map (pieces 4 (n .categories) (t .categories)) placeOf in
+      let e2 = length-map (nameSlotsIn t n) (λ p. p .len) in
+      let e3 = length-map (pieces 4 (n .categories) (t .categories)) nameSlotOf in
       let e4 = pieces-length 4 (n .categories) (t .categories) in
       let f1 = length-map (pieces 6 (n .definitions) (t .definitions)) definitionOf in
       let f2 = pieces-length 6 (n .definitions) (t .definitions) in
       let g1 = ranges-are .as-many in
-      let g2 = length-map (pieces 8 (n .ranges) (t .ranges)) rowOf in
+      let g2 = length-map (pieces 8 (n .ranges) (t .ranges)) slotOf in
       let g3 = pieces-length 8 (n .ranges) (t .ranges) in
       counts-is n _ _ _ _ _ (omega arith) (f1 ∙ f2) (g1 ∙ g2 ∙ g3) references-are (omega arith)
     where
-      references-are : references (ranging (rowsIn t n) (numbersIn t n)) ≡ n .references
-      references-are = sym (numbers-length (ranging (rowsIn t n) (numbersIn t n))) ∙ ap length (ranges-are .again-numbers) ∙ count-numbers t n
+      references-are : references (ranging (slotsIn t n) (numbersIn t n)) ≡ n .references
+      references-are = sym (numbers-length (ranging (slotsIn t n) (numbersIn t n))) ∙ ap length (ranges-are .again-numbers) ∙ count-numbers t n
 
   some-names : T (all (λ l. not (empty l)) (namesIn t n))
-  some-names = go (namesIn t n) (subst (λ l. T (all (λ k. ltb 0 k) l)) (sym names-lens) (standing (n .bytes) 0 (placesIn t n) (h .placed) .none-empty))
+  some-names = go (namesIn t n) (subst (λ l. T (all (λ k. ltb 0 k) l)) (sym names-lens) (standing (n .bytes) 0 (nameSlotsIn t n) (h .placed) .none-empty))
     where
       go : (ls : List (List ℕ)) → T (all (λ k. ltb 0 k) (map length ls)) → T (all (λ l. not (empty l)) ls)
       go [] u = tt
       go ([] ∷ ls) u = absurd u
       go ((a ∷ l) ∷ ls) u = go ls (and-yes (ltb 0 (suc (length l))) _ u .1)
 
-  rules-kept : PackRules (decoded t n)
+  rules-kept : Kept (decoded t n)
   unfolding decoded
   rules-kept =
       let k = h .long .limits in
@@ -627,15 +697,15 @@ module _ (t : Tables) (n : Counts) (b : Bytes t) (h : Parts t n) where
         within = within-from (decoded t n) n e k;
         some-byte = some-names;
         well = h .well;
-        once = h .once;
+        single = h .single;
         lengths = lengths-small (n .definitions) (t .definitions) (b .in-definitions);
         bounds = bounds-are;
         known = subst (λ l. T (all (λ c. ltb c (length (namesIn t n))) l)) (sym (ranges-are .again-numbers))
-          (subst (λ m. T (all (λ c. ltb c m) (numbersIn t n))) (sym (names-count e)) (h .known))
+            (subst (λ m. T (all (λ c. ltb c m) (numbersIn t n))) (sym (names-count e)) (h .known));
       }
     where
-      bounds-are : T (all (λ g. bound (g .lower) && bound (g .upper)) (ranging (rowsIn t n) (numbersIn t n)))
-      bounds-are = as-bounded (ranging (rowsIn t n) (numbersIn t n)) (ranges-are .in-bounds)
+      bounds-are : T (all (λ g. isBound (g .lower) && isBound (g .upper)) (ranging (slotsIn t n) (numbersIn t n)))
+      bounds-are = as-bounded (ranging (slotsIn t n) (numbersIn t n)) (ranges-are .in-bounds)
 
       names-count : countsOf (decoded t n) ≡ n → length (namesIn t n) ≡ n .categories
       names-count e = count-names (decoded t n) n e
@@ -649,23 +719,18 @@ unfolding layout decoded used
 laid t n b h =
     tables-is (used n t) _ _ _ _ _ (used-names t n b h) (used-categories t n b h) (used-definitions t n b h) (used-ranges t n b h) (used-references t n b h)
 
-pub record Handed (t : Tables) (n : Counts) (r : Reading) : Type 0 where
-  pub laid-out : layout r ≡ used n t
-  pub counted : countsOf r ≡ n
-  pub rules : PackRules r
-
 -- what is handed in
-pub handed-holds : (t : Tables) (n : Counts) → Bytes t → T (holds t n) → Handed t n (decoded t n)
+pub handed-holds : (t : Tables) (n : Counts) → Bytes t → T (holds t n) → HoldTogether t n (decoded t n)
 handed-holds t n b u =
     let h = parts t n u in
-    record { laid-out = laid t n b h; counted = counts-are t n b h; rules = rules-kept t n b h }
+    record { laid-out = laid t n b h; counted = counts-are t n b h; rules = kept (decoded t n) (rules-kept t n b h) }
 
-pub handed-back : (t : Tables) (n : Counts) (r : Reading) → Bytes t → handedIn t n ≡ some r → Handed t n r
+pub handed-back : (t : Tables) (n : Counts) (r : Reading) → Bytes t → handedIn t n ≡ some r → HoldTogether t n r
 unfolding handedIn
 handed-back t n r b e = go (holds t n) refl e
   where
-    go : (x : Bool) → holds t n ≡ x → cond x (some (decoded t n)) none ≡ some r → Handed t n r
+    go : (x : Bool) → holds t n ≡ x → cond x (some (decoded t n)) none ≡ some r → HoldTogether t n r
     go true q e =
         let d : decoded t n ≡ r = cc in
-        subst (λ s. Handed t n s) d (handed-holds t n b (true→T (holds t n) q))
+        subst (λ s. HoldTogether t n s) d (handed-holds t n b (true→T (holds t n) q))
     go false q e = absurd (let z : _≡_ {A = ℕ} 0 1 = cc in omega arith)

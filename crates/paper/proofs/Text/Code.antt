@@ -268,20 +268,20 @@ div-2 c = omega arith
 div-3 : (c : ℕ) → c / 262144 ≡ c / 4096 / 64
 div-3 c = omega arith
 
-abbrev pub Taken : ℕ → List ℕ → First → Type 0
-Taken a s f = (c extra : ℕ) → f ≡ good c extra → T (isScalar c) × (a ∷ s ≡ utf8Of c ++ drop extra s)
+abbrev pub Undone : ℕ → List ℕ → First → Type 0
+Undone a s f = (c extra : ℕ) → f ≡ good c extra → T (isScalar c) × (a ∷ s ≡ utf8Of c ++ drop extra s)
 
 -- given what is read, show it of that
-taken : (a : ℕ) (s : List ℕ) (v n : ℕ) → T (isScalar v) → a ∷ s ≡ utf8Of v ++ drop n s → Taken a s (good v n)
+taken : (a : ℕ) (s : List ℕ) (v n : ℕ) → T (isScalar v) → a ∷ s ≡ utf8Of v ++ drop n s → Undone a s (good v n)
 taken a s v n t w c extra e =
     let ec : c ≡ v = cc in
     let en : extra ≡ n = cc in
     (rw ec t, rw (ec, en) w)
 
-not-taken : (a : ℕ) (s : List ℕ) → Taken a s bad
+not-taken : (a : ℕ) (s : List ℕ) → Undone a s bad
 not-taken a s c extra e = bad-good e
 
-two-taken : (a : ℕ) (s : List ℕ) → 0xC2 ≤ a → a ≤ 0xDF → Taken a s (two a s)
+two-taken : (a : ℕ) (s : List ℕ) → 0xC2 ≤ a → a ≤ 0xDF → Undone a s (two a s)
 unfolding two
 two-taken a [] l h = not-taken a []
 two-taken a (b ∷ s) l h = go (isTail b) refl
@@ -289,7 +289,7 @@ two-taken a (b ∷ s) l h = go (isTail b) refl
     v : ℕ
     v = a % 32 * 64 + b % 64
 
-    go : (x : Bool) → isTail b ≡ x → Taken a (b ∷ s) (cond x (good v 1) bad)
+    go : (x : Bool) → isTail b ≡ x → Undone a (b ∷ s) (cond x (good v 1) bad)
     go false e = not-taken a (b ∷ s)
     go true e =
         let t = and-yes (leb 0x80 b) (leb b 0xBF) (true→T _ e) in
@@ -336,7 +336,7 @@ high-4 a b y z l h bl high yl zl =
 omega-le : {v : ℕ} → 0x10000 ≤ v → 0xE000 ≤ v
 omega-le h = omega arith
 
-three-taken : (a : ℕ) (s : List ℕ) → 0xE0 ≤ a → a ≤ 0xEF → Taken a s (three a s)
+three-taken : (a : ℕ) (s : List ℕ) → 0xE0 ≤ a → a ≤ 0xEF → Undone a s (three a s)
 unfolding three
 three-taken a [] l h = not-taken a []
 three-taken a (b ∷ []) l h = not-taken a (b ∷ [])
@@ -348,7 +348,7 @@ three-taken a (b ∷ d ∷ s) l h = go (between (lowest a) (highest a) b && isTa
     v : ℕ
     v = u * 64 + d % 64
 
-    go : (x : Bool) → (between (lowest a) (highest a) b && isTail d) ≡ x → Taken a (b ∷ d ∷ s) (cond x (good v 2) bad)
+    go : (x : Bool) → (between (lowest a) (highest a) b && isTail d) ≡ x → Undone a (b ∷ d ∷ s) (cond x (good v 2) bad)
     go false e = not-taken a (b ∷ d ∷ s)
     go true e =
         let t = and-yes (between (lowest a) (highest a) b) (isTail d) (true→T _ e) in
@@ -372,7 +372,7 @@ three-taken a (b ∷ d ∷ s) l h = go (between (lowest a) (highest a) b && isTa
         taken a (b ∷ d ∷ s) v 2 (scalar-3 a b (d % 64) l h bl high bh dh′)
         (rw (enc-3 v vl vh, div-2 v, vd, vm, ud, um, la, tail-is b bl bh, tail-is d dl dh))
 
-four-taken : (a : ℕ) (s : List ℕ) → 0xF0 ≤ a → a ≤ 0xF4 → Taken a s (four a s)
+four-taken : (a : ℕ) (s : List ℕ) → 0xF0 ≤ a → a ≤ 0xF4 → Undone a s (four a s)
 unfolding four
 four-taken a [] l h = not-taken a []
 four-taken a (b ∷ []) l h = not-taken a (b ∷ [])
@@ -388,7 +388,7 @@ four-taken a (b ∷ d ∷ f ∷ s) l h = go (between (lowest a) (highest a) b &&
     v : ℕ
     v = u * 64 + f % 64
 
-    go : (x : Bool) → (between (lowest a) (highest a) b && isTail d && isTail f) ≡ x → Taken a (b ∷ d ∷ f ∷ s) (cond x (good v 3) bad)
+    go : (x : Bool) → (between (lowest a) (highest a) b && isTail d && isTail f) ≡ x → Undone a (b ∷ d ∷ f ∷ s) (cond x (good v 3) bad)
     go false e = not-taken a (b ∷ d ∷ f ∷ s)
     go true e =
         let tf = and-yes (between (lowest a) (highest a) b && isTail d) (isTail f) (true→T _ e) in
@@ -412,12 +412,12 @@ four-taken a (b ∷ d ∷ f ∷ s) l h = go (between (lowest a) (highest a) b &&
         taken a (b ∷ d ∷ f ∷ s) v 3 (scalar-high v (omega-le vl) vh)
         (rw (enc-4 v vl, div-3 v, div-2 v, vd, vm, ud, um, sd, sm, la, tail-is b bl bh, tail-is d (leb-yes (td .0)) (leb-yes (td .1)), tail-is f (leb-yes (te .0)) (leb-yes (te .1))))
 
-pub first-taken : (a : ℕ) (s : List ℕ) → Taken a s (first a s)
+pub first-taken : (a : ℕ) (s : List ℕ) → Undone a s (first a s)
 unfolding first
 first-taken a s = go (leb a 0x7F) (leb a 0xC1) (leb a 0xDF) (leb a 0xEF) (leb a 0xF4) refl refl refl refl refl
   where
     go : (v w x y z : Bool) → leb a 0x7F ≡ v → leb a 0xC1 ≡ w → leb a 0xDF ≡ x → leb a 0xEF ≡ y → leb a 0xF4 ≡ z
-        → Taken a s (cond v (good a 0) (cond w bad (cond x (two a s) (cond y (three a s) (cond z (four a s) bad)))))
+        → Undone a s (cond v (good a 0) (cond w bad (cond x (two a s) (cond y (three a s) (cond z (four a s) bad)))))
     go true w x y z e₁ e₂ e₃ e₄ e₅ = let h : a ≤ 0x7F = leb-true a 0x7F e₁ in taken a s a 0 (scalar-low a (omega arith)) (rw (enc-1 a h))
     go false true x y z e₁ e₂ e₃ e₄ e₅ = not-taken a s
     go false false true y z e₁ e₂ e₃ e₄ e₅ = two-taken a s (leb-false a 0xC1 e₂) (leb-true a 0xDF e₃)

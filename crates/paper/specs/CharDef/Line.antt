@@ -6,7 +6,8 @@ use mathlib.Core.Logic.{_≢_}
 use mathlib.Core.Bool.{Bool, false, not, cond, _&&_}
 use mathlib.Core.List.{List, [], _∷_, _++_}
 use lib.Dec.{T, eqb}
-use Rattle.paper.specs.Lists.{all, full, edge}
+use Rattle.paper.specs.Sizes.{maxU16, maxU32}
+use Rattle.paper.specs.Lists.{all, full, nothingOr}
 use Rattle.paper.specs.Text.Scalar.{between, isWhite, isSep}
 use Rattle.paper.specs.Numbers.Numeral.{Numeral}
 
@@ -32,7 +33,7 @@ isFieldChar c = not (isSep c) && not (isHash c)
 
 -- nothing, or a comment: `#` and anything
 abbrev pub comment : List ℕ → Bool
-comment cs = edge isHash cs
+comment cs = nothingOr isHash cs
 
 abbrev pub begins0x : List ℕ → Bool
 begins0x [] = false
@@ -59,7 +60,7 @@ pub record Bound (least : ℕ) (cs : List ℕ) (bound : ℕ) : Type 0 where
   pub code : ℕ
   pub whole : cs ≡ zeroXs times ++ numeral
   pub enough : least ≤ times
-  pub number : Numeral 16 0xFFFF numeral code
+  pub number : Numeral 16 maxU16 numeral code
   pub noMark : code ≢ 0xFEFF
   pub noSwap : code ≢ 0xFFFE
   pub says : bound ≡ standsFor code
@@ -71,14 +72,14 @@ pub data Bounds (cs : List ℕ) (lower upper : ℕ) : Type 0 where
 
 -- names, each after white space
 pub data Names : List ℕ → List (List ℕ) → Type 0 where
-  none : {cs : List ℕ} → cs ≡ [] → Names cs []
-  more : {cs name : List ℕ} {names : List (List ℕ)} (white rest : List ℕ) → cs ≡ white ++ (name ++ rest)
+  no-names : {cs : List ℕ} → cs ≡ [] → Names cs []
+  more-names : {cs name : List ℕ} {names : List (List ℕ)} (white rest : List ℕ) → cs ≡ white ++ (name ++ rest)
       → T (full isWhite white) → T (full isNameChar name) → Names rest names → Names cs (name ∷ names)
 
 -- a flag is true exactly at 1
 pub record Flag (cs : List ℕ) (flag : Bool) : Type 0 where
   pub number : ℕ
-  pub spelled : Numeral 10 0xFFFF_FFFF cs number
+  pub spelled : Numeral 10 maxU32 cs number
   pub says : flag ≡ eqb number 1
 
 -- ---- the three kinds of lines
@@ -123,7 +124,7 @@ pub record CategoryLine (cs name : List ℕ) (invoke group : Bool) (length : ℕ
   pub sep₂ : T (full isSep gap₂)
   pub groups : Flag field₂ group
   pub sep₃ : T (full isSep gap₃)
-  pub lengths : Numeral 10 0xFFFF_FFFF field₃ length
+  pub lengths : Numeral 10 maxU32 field₃ length
   pub whiteAfter : T (all isWhite after)
   pub isComment : T (comment rest)
 

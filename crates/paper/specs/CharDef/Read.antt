@@ -7,6 +7,8 @@ use mathlib.Core.Option.{Option, none, some}
 use mathlib.Core.List.{List, [], _∷_, _++_, map}
 use lib.Dec.{leb, ltb, eqb}
 use lib.ListN.{length}
+use Rattle.paper.specs.Refusals.{textLong, textIllFormed, rangeParts, boundUnreadable, boundMark, categoryFields, categoryNumber, rangesFull, referencesFull, categoryLinesFull, categoriesFull, nameBytesFull}
+use Rattle.paper.specs.Sizes.{maxTextBytes, maxCategories, maxNameBytes, maxCategoryLines, maxRanges, maxReferences, maxU16, maxU32}
 use Rattle.paper.specs.Lists.{any, cut, push, words, until, trimStart, trimEnd, same, positionOf}
 use Rattle.paper.specs.Text.Scalar.{isWhite, isSep, utf8}
 use Rattle.paper.specs.CharDef.Line.{Line, blank, category, range, begins0x, isHash, standsFor}
@@ -21,9 +23,9 @@ pub data Found : Type 0 where
   wrong : ℕ → Found
 
 -- a bound, or the refusal 5 or 6
-pub data Edge : Type 0 where
-  edge : ℕ → Edge
-  noEdge : ℕ → Edge
+pub data BoundFound : Type 0 where
+  boundIs : ℕ → BoundFound
+  noBound : ℕ → BoundFound
 
 abbrev pub strip0x : List ℕ → List ℕ
 strip0x [] = []
@@ -36,46 +38,46 @@ parts [] = [] ∷ []
 parts (c ∷ []) = (c ∷ []) ∷ []
 parts (c ∷ d ∷ cs) = let r = parts cs in let q = parts (d ∷ cs) in cond (eqb c 46 && eqb d 46) ([] ∷ r) (push c q)
 
-unfoldable pub checkedBound : Option ℕ → Edge
+unfoldable pub checkedBound : Option ℕ → BoundFound
 unfolding standsFor
-checkedBound none = noEdge 5
-checkedBound (some c) = cond (eqb c 0xFEFF || eqb c 0xFFFE) (noEdge 6) (edge (standsFor c))
+checkedBound none = noBound boundUnreadable
+checkedBound (some c) = cond (eqb c 0xFEFF || eqb c 0xFFFE) (noBound boundMark) (boundIs (standsFor c))
 
-unfoldable pub boundOf : List ℕ → Edge
+unfoldable pub boundOf : List ℕ → BoundFound
 unfolding checkedBound numeral
-boundOf cs = checkedBound (numeral 16 0xFFFF (strip0x cs))
+boundOf cs = checkedBound (numeral 16 maxU16 (strip0x cs))
 
-abbrev pub fromEdges : Edge → Edge → List (List ℕ) → Found
-fromEdges (noEdge n) e names = wrong n
-fromEdges (edge lower) (noEdge n) names = wrong n
-fromEdges (edge lower) (edge upper) names = found (range lower upper names)
+abbrev pub fromBounds : BoundFound → BoundFound → List (List ℕ) → Found
+fromBounds (noBound n) e names = wrong n
+fromBounds (boundIs lower) (noBound n) names = wrong n
+fromBounds (boundIs lower) (boundIs upper) names = found (range lower upper names)
 
 unfoldable pub fromParts : List (List ℕ) → List (List ℕ) → Found
 unfolding boundOf
-fromParts [] names = wrong 5
-fromParts (a ∷ []) names = fromEdges (boundOf a) (boundOf a) names
-fromParts (a ∷ b ∷ []) names = fromEdges (boundOf a) (boundOf b) names
-fromParts (a ∷ b ∷ c ∷ r) names = wrong 4
+fromParts [] names = wrong boundUnreadable
+fromParts (a ∷ []) names = fromBounds (boundOf a) (boundOf a) names
+fromParts (a ∷ b ∷ []) names = fromBounds (boundOf a) (boundOf b) names
+fromParts (a ∷ b ∷ c ∷ r) names = wrong rangeParts
 
 unfoldable pub rangeOf : List (List ℕ) → Found
 unfolding fromParts
-rangeOf [] = wrong 5
+rangeOf [] = wrong boundUnreadable
 rangeOf (f ∷ names) = fromParts (parts f) names
 
 abbrev pub fromNumbers : List ℕ → Option ℕ → Option ℕ → Option ℕ → Found
-fromNumbers name none g l = wrong 8
-fromNumbers name (some i) none l = wrong 8
-fromNumbers name (some i) (some g) none = wrong 8
+fromNumbers name none g l = wrong categoryNumber
+fromNumbers name (some i) none l = wrong categoryNumber
+fromNumbers name (some i) (some g) none = wrong categoryNumber
 fromNumbers name (some i) (some g) (some l) = found (category name (eqb i 1) (eqb g 1) l)
 
 unfoldable pub categoryOf : List (List ℕ) → Found
 unfolding numeral
-categoryOf [] = wrong 7
-categoryOf (n ∷ []) = wrong 7
-categoryOf (n ∷ i ∷ []) = wrong 7
-categoryOf (n ∷ i ∷ g ∷ []) = wrong 7
-categoryOf (n ∷ i ∷ g ∷ l ∷ []) = fromNumbers n (numeral 10 0xFFFF_FFFF i) (numeral 10 0xFFFF_FFFF g) (numeral 10 0xFFFF_FFFF l)
-categoryOf (n ∷ i ∷ g ∷ l ∷ m ∷ r) = wrong 7
+categoryOf [] = wrong categoryFields
+categoryOf (n ∷ []) = wrong categoryFields
+categoryOf (n ∷ i ∷ []) = wrong categoryFields
+categoryOf (n ∷ i ∷ g ∷ []) = wrong categoryFields
+categoryOf (n ∷ i ∷ g ∷ l ∷ []) = fromNumbers n (numeral 10 maxU32 i) (numeral 10 maxU32 g) (numeral 10 maxU32 l)
+categoryOf (n ∷ i ∷ g ∷ l ∷ m ∷ r) = wrong categoryFields
 
 unfoldable pub body : List ℕ → List ℕ
 unfolding isWhite
@@ -105,8 +107,8 @@ unfoldable pub internOne : List (List ℕ) → List ℕ → Interned
 unfolding nameBytes
 internOne names n =
     cond (any (same n) names) (names-are names)
-    (cond (leb 512 (length names)) (full-at 12)
-    (cond (ltb 16384 (nameBytes names + length n)) (full-at 13)
+    (cond (leb maxCategories (length names)) (full-at categoriesFull)
+    (cond (ltb maxNameBytes (nameBytes names + length n)) (full-at nameBytesFull)
     (names-are (names ++ (n ∷ [])))))
 
 abbrev pub afterOne : Interned → (List (List ℕ) → Interned) → Interned
@@ -136,11 +138,11 @@ unfoldable pub enter : Reading → Line → Step
 unfolding intern utf8 references
 enter r blank = go-on r
 enter r (category name invoke group len) =
-    cond (leb 512 (length (r .definitions))) (stop 11)
+    cond (leb maxCategoryLines (length (r .definitions))) (stop categoryLinesFull)
     (addDefinition (intern (utf8 name ∷ []) (r .names)) r (record { invoke = invoke; group = group; len = len }))
 enter r (range lower upper names) =
-    cond (leb 2048 (length (r .ranges))) (stop 9)
-    (cond (ltb 8192 (references (r .ranges) + length names)) (stop 10)
+    cond (leb maxRanges (length (r .ranges))) (stop rangesFull)
+    (cond (ltb maxReferences (references (r .ranges) + length names)) (stop referencesFull)
     (addRange (intern (map utf8 names) (r .names)) r lower upper (map utf8 names)))
 
 abbrev pub enterFound : Reading → Found → Step
@@ -173,9 +175,9 @@ nothingRead = record { names = []; definitions = []; ranges = [] }
 
 unfoldable pub readChars : Text → Answer
 unfolding readLines nothingRead
-readChars (broken at) = refused 3 at
+readChars (broken at) = refused textIllFormed at
 readChars (chars cs) = readLines 1 (cut (λ c. eqb c 10) cs) nothingRead
 
 unfoldable pub readText : List ℕ → Answer
 unfolding readChars decode
-readText bytes = cond (ltb 65536 (length bytes)) (refused 2 0) (readChars (decode bytes))
+readText bytes = cond (ltb maxTextBytes (length bytes)) (refused textLong 0) (readChars (decode bytes))

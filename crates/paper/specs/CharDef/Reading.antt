@@ -6,6 +6,7 @@ use mathlib.Core.Bool.{Bool, not}
 use mathlib.Core.List.{List, [], _∷_, _++_, map}
 use lib.Dec.{T, eqb}
 use lib.ListN.{length}
+use Rattle.paper.specs.Sizes.{maxTextBytes, maxCategories, maxNameBytes, maxCategoryLines, maxRanges, maxReferences}
 use Rattle.paper.specs.Lists.{all, empty, joined, firstSeen, positionOf, same, sum}
 use Rattle.paper.specs.Text.Scalar.{utf8, isScalar}
 use Rattle.paper.specs.CharDef.Line.{Line, blank, category, range, LineFits}
@@ -70,11 +71,11 @@ unfoldable pub references : List Range → ℕ
 references ranges = sum (map (λ r. length (r .categories)) ranges)
 
 pub record Within (r : Reading) : Type 0 where
-  pub categories-fit : length (r .names) ≤ 512
-  pub names-fit : nameBytes (r .names) ≤ 16384
-  pub definitions-fit : length (r .definitions) ≤ 512
-  pub ranges-fit : length (r .ranges) ≤ 2048
-  pub references-fit : references (r .ranges) ≤ 8192
+  pub categories-fit : length (r .names) ≤ maxCategories
+  pub names-fit : nameBytes (r .names) ≤ maxNameBytes
+  pub definitions-fit : length (r .definitions) ≤ maxCategoryLines
+  pub ranges-fit : length (r .ranges) ≤ maxRanges
+  pub references-fit : references (r .ranges) ≤ maxReferences
 
 -- ---- texts
 
@@ -96,7 +97,7 @@ pub record Fits (bytes : List ℕ) (r : Reading) : Type 0 where
   pub chars : List ℕ
   pub texts : List (List ℕ)
   pub lines : List Line
-  pub short : length bytes ≤ 65536
+  pub short : length bytes ≤ maxTextBytes
   pub encoded : bytes ≡ utf8 chars
   pub scalars : T (all isScalar chars)
   pub split : chars ≡ joinLF texts

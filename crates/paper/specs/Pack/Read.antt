@@ -18,13 +18,15 @@ use mathlib.Core.Bool.{Bool, true, not, cond, _&&_}
 use mathlib.Core.List.{List, [], _∷_, map}
 use lib.Dec.{leb, ltb, eqb}
 use lib.ListN.{length}
+use Rattle.paper.specs.Refusals.{packVersion, packEnds, packRule, packLeftOver}
+use Rattle.paper.specs.Sizes.{maxCategories, maxNameBytes, maxCategoryLines, maxRanges, maxReferences}
 use Rattle.paper.specs.Lists.{all, any, joined, same}
 use Rattle.paper.specs.CharDef.Reading.{Definition, Range, Reading, references}
 use Rattle.paper.specs.CharDef.Read.{Answer, accepted, refused}
 use Rattle.paper.specs.Pack.Fields.{bits}
 use Rattle.paper.specs.Pack.Rules.{formed, isBound}
-infixl 20 _>>=_
 
+infixr 20 _▹_
 -- the bits of bytes, in order
 abbrev pub unpackBits : List ℕ → List ℕ
 unpackBits bytes = joined (map (bits 8) bytes)
@@ -57,29 +59,29 @@ takeBytes (suc n) s = afterByte (takeNumber 8 0 s) (λ t. takeBytes n t)
 -- ---- readers
 
 -- a value with the place behind it and the bits left, or the refusal's number and place
-pub data Got (A : Type 0) : Type 0 where
-  got : A → ℕ → List ℕ → Got A
-  broke : ℕ → ℕ → Got A
+pub data Outcome (A : Type 0) : Type 0 where
+  gave : A → ℕ → List ℕ → Outcome A
+  broke : ℕ → ℕ → Outcome A
 
 -- from a place and the bits that stand there
 abbrev pub Reader : Type 0 → Type 0
-Reader A = ℕ → List ℕ → Got A
+Reader A = ℕ → List ℕ → Outcome A
 
-unfoldable pub afterGot : {A B : Type 0} → Got A → (A → Reader B) → Got B
-afterGot (broke n at) go = broke n at
-afterGot (got a at s) go = go a at s
+unfoldable pub afterOutcome : {A B : Type 0} → Outcome A → (A → Reader B) → Outcome B
+afterOutcome (broke n at) go = broke n at
+afterOutcome (gave a at s) go = go a at s
 
 -- one reader, and what follows it from its value
-unfoldable pub _>>=_ : {A B : Type 0} → Reader A → (A → Reader B) → Reader B
-unfolding afterGot
-_>>=_ p go at s = afterGot (p at s) go
+unfoldable pub _▹_ : {A B : Type 0} → Reader A → (A → Reader B) → Reader B
+unfolding afterOutcome
+_▹_ p go at s = afterOutcome (p at s) go
 
 unfoldable pub give : {A : Type 0} → A → Reader A
-give a at s = got a at s
+give a at s = gave a at s
 
-unfoldable pub settle : {A : Type 0} → ℕ → ℕ → ℕ → (A → Bool) → Taken A → Got A
-settle n w at ok short = broke 19 at
-settle n w at ok (taken a s) = cond (ok a) (got a (at + w) s) (broke n at)
+unfoldable pub settle : {A : Type 0} → ℕ → ℕ → ℕ → (A → Bool) → Taken A → Outcome A
+settle n w at ok short = broke packEnds at
+settle n w at ok (taken a s) = cond (ok a) (gave a (at + w) s) (broke n at)
 
 -- a field of w bits, refused by n where it breaks its rule
 unfoldable pub fieldOr : ℕ → ℕ → (ℕ → Bool) → Reader ℕ
@@ -87,7 +89,7 @@ unfolding settle
 fieldOr n w ok at s = settle n w at ok (takeNumber w 0 s)
 
 abbrev pub number : ℕ → (ℕ → Bool) → Reader ℕ
-number w ok = fieldOr 20 w ok
+number w ok = fieldOr packRule w ok
 
 abbrev pub free : ℕ → Bool
 free n = true
@@ -95,108 +97,108 @@ free n = true
 -- n bytes as one field
 unfoldable pub bytesField : ℕ → (List ℕ → Bool) → Reader (List ℕ)
 unfolding settle
-bytesField n ok at s = settle 20 (8 * n) at ok (takeBytes n s)
+bytesField n ok at s = settle packRule (8 * n) at ok (takeBytes n s)
 
 -- a rule on what was read
 unfoldable pub demand : Bool → Reader (Unit {0})
-demand b at s = cond b (got tt at s) (broke 20 at)
+demand b at s = cond b (gave tt at s) (broke packRule at)
 
 -- zero bits, fewer than eight, and nothing behind them
-abbrev pub padded : List ℕ → Bool
-padded s = ltb (length s) 8 && all (eqb 0) s
+abbrev pub isPadding : List ℕ → Bool
+isPadding s = ltb (length s) 8 && all (eqb 0) s
 
 unfoldable pub padding : Reader (Unit {0})
-padding at s = cond (padded s) (got tt at []) (broke 21 at)
+padding at s = cond (isPadding s) (gave tt at []) (broke packLeftOver at)
 
 unfoldable pub many : {A : Type 0} → ℕ → Reader A → Reader (List A)
 many zero p = give []
-many (suc n) p = do
-  x ← p
-  xs ← many n p
-  give (x ∷ xs)
+many (suc n) p =
+    p ▹ λ x.
+    many n p ▹ λ xs.
+    give (x ∷ xs)
 
 -- ---- the parts of a pack
 
 -- after names of `used` bytes in all, those in `before`
 abbrev pub lengthRule : ℕ → ℕ → Bool
-lengthRule used n = ltb 0 n && leb (used + n) 16384
+lengthRule used n = ltb 0 n && leb (used + n) maxNameBytes
 
 unfoldable pub nameRule : List (List ℕ) → List ℕ → Bool
 nameRule before n = formed n && not (any (same n) before)
 
 unfoldable pub readName : ℕ → List (List ℕ) → Reader (List ℕ)
-readName used before = do
-  n ← number 15 (lengthRule used)
-  bytesField n (nameRule before)
+readName used before =
+    number 15 (lengthRule used) ▹ λ n.
+    bytesField n (nameRule before)
 
 unfoldable pub readNames : ℕ → ℕ → List (List ℕ) → Reader (List (List ℕ))
 readNames zero used before = give []
-readNames (suc k) used before = do
-  name ← readName used before
-  names ← readNames k (used + length name) (name ∷ before)
-  give (name ∷ names)
+readNames (suc k) used before =
+    readName used before ▹ λ name.
+    readNames k (used + length name) (name ∷ before) ▹ λ names.
+    give (name ∷ names)
 
 unfoldable pub readDefinition : Reader Definition
-readDefinition = do
-  invoke ← number 1 free
-  group ← number 1 free
-  len ← number 32 free
-  give (record { invoke = eqb invoke 1; group = eqb group 1; len = len })
+readDefinition =
+    number 1 free ▹ λ invoke.
+    number 1 free ▹ λ group.
+    number 32 free ▹ λ len.
+    give (record { invoke = eqb invoke 1; group = eqb group 1; len = len })
 
 -- with `known` categories and `total` references, `used` of them so far
 abbrev pub countRule : ℕ → ℕ → ℕ → Bool
 countRule total used n = leb (used + n) total
 
 unfoldable pub readRange : ℕ → ℕ → ℕ → Reader Range
-readRange known total used = do
-  lower ← number 16 isBound
-  upper ← number 16 isBound
-  count ← number 14 (countRule total used)
-  categories ← many count (number 9 (λ c. ltb c known))
-  give (record { lower = lower; upper = upper; categories = categories })
+readRange known total used =
+    number 16 isBound ▹ λ lower.
+    number 16 isBound ▹ λ upper.
+    number 14 (countRule total used) ▹ λ count.
+    many count (number 9 (λ c. ltb c known)) ▹ λ categories.
+    give (record { lower = lower; upper = upper; categories = categories })
 
 unfoldable pub readRanges : ℕ → ℕ → ℕ → ℕ → Reader (List Range)
 readRanges zero known total used = give []
-readRanges (suc k) known total used = do
-  g ← readRange known total used
-  gs ← readRanges k known total (used + length (g .categories))
-  give (g ∷ gs)
+readRanges (suc k) known total used =
+    readRange known total used ▹ λ g.
+    readRanges k known total (used + length (g .categories)) ▹ λ gs.
+    give (g ∷ gs)
 
 abbrev pub upTo : ℕ → ℕ → Bool
 upTo limit n = leb n limit
 
 unfoldable pub readBody : ℕ → ℕ → ℕ → ℕ → Reader Reading
-readBody categories lines ranges total = do
-  names ← readNames categories 0 []
-  definitions ← many lines readDefinition
-  gs ← readRanges ranges categories total 0
-  whole ← demand (eqb (references gs) total)
-  give (record { names = names; definitions = definitions; ranges = gs })
+readBody categories lines ranges total =
+    readNames categories 0 [] ▹ λ names.
+    many lines readDefinition ▹ λ definitions.
+    readRanges ranges categories total 0 ▹ λ gs.
+    demand (eqb (references gs) total) ▹ λ whole.
+    give (record { names = names; definitions = definitions; ranges = gs })
 
 -- what stands behind the version
 unfoldable pub readCounted : Reader Reading
-readCounted = do
-  categories ← number 10 (upTo 512)
-  lines ← number 10 (upTo 512)
-  ranges ← number 12 (upTo 2048)
-  total ← number 14 (upTo 8192)
-  readBody categories lines ranges total
+readCounted =
+    number 10 (upTo maxCategories) ▹ λ categories.
+    number 10 (upTo maxCategoryLines) ▹ λ lines.
+    number 12 (upTo maxRanges) ▹ λ ranges.
+    number 14 (upTo maxReferences) ▹ λ total.
+    readBody categories lines ranges total
 
 unfoldable pub readFields : Reader Reading
-readFields = do
-  version ← fieldOr 18 8 (eqb 1)
-  readCounted
+readFields =
+    fieldOr packVersion 8 (eqb 1) ▹ λ version.
+    readCounted
 
 unfoldable pub readAll : Reader Reading
-readAll = do
-  r ← readFields
-  end ← padding
-  give r
+readAll =
+    readFields ▹ λ r.
+    padding ▹ λ end.
+    give r
 
-abbrev pub answer : Got Reading → Answer
-answer (got r at s) = accepted r
+abbrev pub answer : Outcome Reading → Answer
+answer (gave r at s) = accepted r
 answer (broke n at) = refused n at
 
 unfoldable pub readPack : List ℕ → Answer
-unfolding readAll readFields readCounted readBody readNames readName nameRule readDefinition readRanges readRange many padding demand bytesField fieldOr give _>>=_ formed isBound references
+unfolding readAll readFields readCounted readBody readNames readName nameRule readDefinition readRanges readRange many padding demand bytesField fieldOr give _▹_ formed isBound references
 readPack bytes = answer (readAll 0 (unpackBits bytes))

@@ -1,10 +1,11 @@
 -- Pack.Rules.
 -- Assumes nothing.
-use Prim.Native.Nat.{ℕ}
+use Prim.Native.Nat.{ℕ, _+_}
 use mathlib.Core.Bool.{Bool, true, false, not, _&&_}
 use mathlib.Core.List.{List, [], _∷_}
 use lib.Dec.{T, leb, ltb, eqb}
 use lib.ListN.{length}
+use Rattle.paper.specs.Sizes.{maxCategories, maxNameBytes, maxCategoryLines, maxRanges, maxReferences, maxU16, maxU32}
 use Rattle.paper.specs.Lists.{all, any, same, empty}
 use Rattle.paper.specs.CharDef.Reading.{Definition, Range, Reading, nameBytes, references, Within}
 use Rattle.paper.specs.Text.Scalar.{between, WellFormed}
@@ -27,8 +28,8 @@ unfoldable pub formed : List ℕ → Bool
 unfolding decode
 formed s = isText (decode s)
 
-abbrev pub some : List ℕ → Bool
-some n = not (empty n)
+abbrev pub hasBytes : List ℕ → Bool
+hasBytes n = not (empty n)
 
 -- no name equals one before it: `before` holds those passed already
 abbrev pub onceAfter : List (List ℕ) → List (List ℕ) → Bool
@@ -41,7 +42,7 @@ once ns = onceAfter [] ns
 
 -- a bound has 16 bits and is not D800 to DFFF, FEFF or FFFE
 unfoldable pub isBound : ℕ → Bool
-isBound c = leb c 0xFFFF && not (between 0xD800 0xDFFF c) && not (eqb c 0xFEFF) && not (eqb c 0xFFFE)
+isBound c = leb c maxU16 && not (between 0xD800 0xDFFF c) && not (eqb c 0xFEFF) && not (eqb c 0xFFFE)
 
 unfoldable pub bounded : Range → Bool
 unfolding isBound
@@ -49,7 +50,7 @@ bounded g = isBound (g .lower) && isBound (g .upper)
 
 -- a definition's length has 32 bits
 abbrev pub sized : Definition → Bool
-sized d = ltb (d .len) 0x1_0000_0000
+sized d = ltb (d .len) (maxU32 + 1)
 
 -- all of these
 abbrev pub every : List Bool → Bool
@@ -59,11 +60,11 @@ every (b ∷ bs) = b && every bs
 unfoldable pub within : Reading → Bool
 within r =
     every
-    (leb (length (r .names)) 512
-    ∷ leb (nameBytes (r .names)) 16384
-    ∷ leb (length (r .definitions)) 512
-    ∷ leb (length (r .ranges)) 2048
-    ∷ leb (references (r .ranges)) 8192
+    (leb (length (r .names)) maxCategories
+    ∷ leb (nameBytes (r .names)) maxNameBytes
+    ∷ leb (length (r .definitions)) maxCategoryLines
+    ∷ leb (length (r .ranges)) maxRanges
+    ∷ leb (references (r .ranges)) maxReferences
     ∷ [])
 
 -- a reading keeps every rule of a pack
@@ -72,7 +73,7 @@ unfolding within formed bounded numbered
 keepsRules r =
     every
     (within r
-    ∷ all some (r .names)
+    ∷ all hasBytes (r .names)
     ∷ all formed (r .names)
     ∷ once (r .names)
     ∷ all sized (r .definitions)
@@ -90,7 +91,7 @@ pub record PackRules (r : Reading) : Type 0 where
   -- all limits
   pub limits : Within r
   -- each name: length at least 1, well-formed UTF-8, no name twice
-  pub names-some : T (all some (r .names))
+  pub names-some : T (all hasBytes (r .names))
   pub names-formed : Each WellFormed (r .names)
   pub names-once : T (once (r .names))
   -- each definition's length has 32 bits

@@ -5,6 +5,7 @@ use mathlib.Core.Bool.{Bool, cond}
 use mathlib.Core.List.{List, [], _∷_, map}
 use lib.Dec.{leb}
 use lib.ListN.{length, getD, take, drop}
+use Rattle.paper.specs.Sizes.{maxFlatRow}
 use Rattle.paper.specs.Lists.{all, sum}
 use Rattle.paper.specs.CharDef.Reading.{Reading}
 use Rattle.paper.specs.Rows.Covering.{boundaries, rows}
@@ -44,6 +45,6 @@ flatEntry r c =
 unfoldable pub entryPart : ℕ → List ℕ → List ℕ
 entryPart e pool = take (e % 256) (drop (e / 256) pool)
 
--- every row has 255 categories at most
+-- every row has maxFlatRow categories at most
 unfoldable pub shortRows : List (List ℕ) → Bool
-shortRows ws = all (λ w. leb (length w) 255) ws
+shortRows ws = all (λ w. leb (length w) maxFlatRow) ws

@@ -6,6 +6,7 @@ use mathlib.Core.Bool.{Bool, false, not, cond}
 use mathlib.Core.List.{List, [], _∷_, _++_, map}
 use lib.Dec.{T}
 use lib.ListN.{length, take, drop}
+use Rattle.paper.specs.Sizes.{maxTextBytes, maxUnkEntries, maxU32, maxI32, lowI32}
 use Rattle.paper.specs.Lists.{empty, all, joined, same, is, without, joinWith}
 use Rattle.paper.specs.Text.Scalar.{utf8, isScalar}
 use Rattle.paper.specs.Numbers.Numeral.{Numeral, Integer, SignedNumeral, wrap16}
@@ -41,11 +42,11 @@ pub record UnkLine (cs : List ℕ) (e : Entry) : Type 0 where
   pub whole : cs ≡ joinWith 44 (e .category ∷ field₁ ∷ field₂ ∷ field₃ ∷ more)
   pub parted : T (all (without 44) (e .category ∷ field₁ ∷ field₂ ∷ field₃ ∷ more))
   pub number₁ : ℕ
-  pub lefts : Numeral 10 0xFFFF_FFFF field₁ number₁
+  pub lefts : Numeral 10 maxU32 field₁ number₁
   pub number₂ : ℕ
-  pub rights : Numeral 10 0xFFFF_FFFF field₂ number₂
+  pub rights : Numeral 10 maxU32 field₂ number₂
   pub number₃ : Integer
-  pub costs : SignedNumeral 10 2147483647 2147483648 field₃ number₃
+  pub costs : SignedNumeral 10 maxI32 lowI32 field₃ number₃
   pub left-is : e .left ≡ number₁ % 65536
   pub right-is : e .right ≡ number₂ % 65536
   pub cost-is : e .cost ≡ wrap16 number₃
@@ -73,7 +74,7 @@ entriesFrom k name (e ∷ es) = let r = entriesFrom (suc k) name es in cond (sam
 
 pub record Unk : Type 0 where
   -- left, right, cost of each entry
-  pub words : List (ℕ × ℕ × ℕ)
+  pub wordEntries : List (ℕ × ℕ × ℕ)
   -- where each entry's details begin in the store
   pub offsets : List ℕ
   -- the details, each behind its length
@@ -85,7 +86,7 @@ unfoldable pub unkOf : List (List ℕ) → List Entry → Unk
 unfolding stored
 unkOf names es =
     record {
-      words = map (λ e. (e .left, e .right, e .cost)) es;
+      wordEntries = map (λ e. (e .left, e .right, e .cost)) es;
       offsets = offsetsFrom 0 (map stored es);
       store = joined (map stored es);
       members = map (λ n. entriesFrom 0 n es) names;
@@ -101,12 +102,12 @@ pub record UnkFits (names : List (List ℕ)) (bytes : List ℕ) (u : Unk) : Type
   pub characters : List ℕ
   pub lines : List (List ℕ)
   pub entries : List Entry
-  pub short : length bytes ≤ 65536
+  pub short : length bytes ≤ maxTextBytes
   pub encoded : bytes ≡ utf8 characters
   pub scalars : T (all isScalar characters)
   pub split : Lines bytes lines
   pub each : EachUnk lines entries
-  pub few : length entries ≤ 4096
+  pub few : length entries ≤ maxUnkEntries
   pub says : u ≡ unkOf names entries
 
 -- ---- the details of an entry, from the store

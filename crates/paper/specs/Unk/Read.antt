@@ -6,6 +6,8 @@ use mathlib.Core.Option.{Option, none, some}
 use mathlib.Core.List.{List, [], _∷_}
 use lib.Dec.{ltb}
 use lib.ListN.{length}
+use Rattle.paper.specs.Refusals.{textLong, textIllFormed, unkFields, unkNumber, unkEntriesFull}
+use Rattle.paper.specs.Sizes.{maxTextBytes, maxUnkEntries, maxU32, maxI32, lowI32}
 use Rattle.paper.specs.Lists.{empty, cut, is, joinWith}
 use Rattle.paper.specs.Text.Decode.{Text, broken, chars, decode}
 use Rattle.paper.specs.Numbers.Numeral.{numeral, Integer, signedNumeral, wrap16}
@@ -30,20 +32,20 @@ pub data UnkFound : Type 0 where
   no-entry : ℕ → UnkFound
 
 abbrev pub fromUnkNumbers : List ℕ → Option ℕ → Option ℕ → Option Integer → List (List ℕ) → UnkFound
-fromUnkNumbers name none r c ds = no-entry 24
-fromUnkNumbers name (some l) none c ds = no-entry 24
-fromUnkNumbers name (some l) (some r) none ds = no-entry 24
+fromUnkNumbers name none r c ds = no-entry unkNumber
+fromUnkNumbers name (some l) none c ds = no-entry unkNumber
+fromUnkNumbers name (some l) (some r) none ds = no-entry unkNumber
 fromUnkNumbers name (some l) (some r) (some c) ds =
     entry (record { category = name; left = l % 65536; right = r % 65536; cost = wrap16 c; details = joinWith 0 ds })
 
 unfoldable pub fromFields : List (List ℕ) → UnkFound
 unfolding numeral signedNumeral wrap16
-fromFields [] = no-entry 23
-fromFields (a ∷ []) = no-entry 23
-fromFields (a ∷ b ∷ []) = no-entry 23
-fromFields (a ∷ b ∷ c ∷ []) = no-entry 23
+fromFields [] = no-entry unkFields
+fromFields (a ∷ []) = no-entry unkFields
+fromFields (a ∷ b ∷ []) = no-entry unkFields
+fromFields (a ∷ b ∷ c ∷ []) = no-entry unkFields
 fromFields (a ∷ b ∷ c ∷ d ∷ ds) =
-    fromUnkNumbers a (numeral 10 0xFFFF_FFFF b) (numeral 10 0xFFFF_FFFF c) (signedNumeral 10 2147483647 2147483648 d) ds
+    fromUnkNumbers a (numeral 10 maxU32 b) (numeral 10 maxU32 c) (signedNumeral 10 maxI32 lowI32 d) ds
 
 -- the entry that a line says, or what is wrong with it: 23 or 24
 unfoldable pub unkLineOf : List ℕ → UnkFound
@@ -62,12 +64,12 @@ consEntry e (stops n place) = stops n place
 
 -- a line is an entry, so line k is entry k: 25 is given at line 4,097
 abbrev pub orFull : Bool → ℕ → Entry → (ℕ → Entries) → Entries
-orFull true k e go = stops 25 k
+orFull true k e go = stops unkEntriesFull k
 orFull false k e go = consEntry e (go (suc k))
 
 abbrev pub enterUnk : ℕ → UnkFound → (ℕ → Entries) → Entries
 enterUnk k (no-entry n) go = stops n k
-enterUnk k (entry e) go = orFull (ltb 4096 k) k e go
+enterUnk k (entry e) go = orFull (ltb maxUnkEntries k) k e go
 
 unfoldable pub readEntries : ℕ → List (List ℕ) → Entries
 unfolding unkLineOf
@@ -84,9 +86,9 @@ answerUnk names (entries-are es) = accepted (unkOf names es)
 answerUnk names (stops n place) = refused n place
 
 abbrev pub readUnkText : List (List ℕ) → List ℕ → Text → UnkAnswer
-readUnkText names bytes (broken at) = refused 3 at
+readUnkText names bytes (broken at) = refused textIllFormed at
 readUnkText names bytes (chars cs) = answerUnk names (readEntries 1 (unkLines bytes))
 
 unfoldable pub readUnk : List (List ℕ) → List ℕ → UnkAnswer
 unfolding decode readEntries unkLines unkOf
-readUnk names bytes = cond (ltb 65536 (length bytes)) (refused 2 0) (readUnkText names bytes (decode bytes))
+readUnk names bytes = cond (ltb maxTextBytes (length bytes)) (refused textLong 0) (readUnkText names bytes (decode bytes))
