@@ -13,12 +13,14 @@ use lib.ListN.{length, take, drop, getD, length-append, length-map}
 use lib.Seq.{take-append-seam, drop-append-add, drop-drop}
 use mir.Facts.{and-yes, yes-and, ltb-no, no-ltb, leb-yes, yes-leb}
 use borrow.Author.Tests.{ltb-true, ltb-false, le-ltb, ne-eqb, eq-eqb}
+use Rattle.paper.specs.Numbers.Bytes.{le, value}
 use Rattle.paper.specs.Lists.{empty, all, any, full, joined, cut, push, same, sum, is, without, joinWith}
 use Rattle.paper.specs.Text.Scalar.{WellFormed, LongestPrefix}
 use Rattle.paper.specs.Numbers.Numeral.{Numeral, numeral, Integer, pos, neg, SignedNumeral, signedNumeral, wrap16}
 use Rattle.paper.specs.Text.Decode.{Text, broken, chars, decode}
-use Rattle.paper.specs.Unk.Entry.{endsCR, Lines, no-line, at-LF, at-CRLF, Entry, UnkLine, head4, stored, offsetsFrom, entriesFrom, Unk, unkOf, EachUnk, done, next, UnkFits, detailsAt, littleEndian}
+use Rattle.paper.specs.Unk.Entry.{endsCR, Lines, no-line, at-LF, at-CRLF, Entry, UnkLine, stored, offsetsFrom, entriesFrom, Unk, unkOf, EachUnk, done, next, UnkFits, detailsAt}
 use Rattle.paper.specs.Unk.Read.{dropCR, fromPieces, unkLines, UnkFound, entry, no-entry, fromUnkNumbers, fromFields, unkLineOf, Entries, entries-are, stops, consEntry, orFull, enterUnk, readEntries, UnkAnswer, accepted, refused, answerUnk, readUnkText, readUnk}
+use Rattle.paper.proofs.Tables.Laws.{value-le}
 use Rattle.paper.proofs.Lists.Facts.{T→true, T→false, true→T, all-append, un, cut-run, pushAll, pushAll-first}
 use Rattle.paper.proofs.CharDef.Sound.{false→T, zero-one, all-left, Pieces, last, then, cut-pieces, numeral-sound}
 use Rattle.paper.proofs.CharDef.Complete.{le10, numeral-read}
@@ -428,7 +430,7 @@ signed-length base top low cs (pos n) r = numeral-length r
 signed-length base top low cs (neg n) r = let e = ap length (r .whole) in omega arith
 
 stored-length : (e : Entry) → length (stored e) ≡ 4 + length (e .details)
-unfolding stored head4
+unfolding stored
 stored-length e = omega arith
 
 -- an entry's details and their length take no more than its line
@@ -473,15 +475,6 @@ store-short names bytes u f =
     let d = ap length e in
     omega arith
 
-pub head4-says : (n : ℕ) → n < 0x1_0000_0000 → littleEndian (head4 n) ≡ n
-unfolding head4
-head4-says n h =
-    let a : n / 65536 ≡ n / 256 / 256 = omega arith in
-    let b : n / 16777216 ≡ n / 65536 / 256 = omega arith in
-    let c : n / 16777216 < 256 = omega arith in
-    let d : n / 16777216 % 256 ≡ n / 16777216 = omega arith in
-    omega arith
-
 offset-at : (ls : List (List ℕ)) (at i : ℕ) → i < length ls → getD (offsetsFrom at ls) i 0 ≡ at + sum (map length (take i ls))
 offset-at [] at i h = absurd (not-suc-le-zero h)
 offset-at (l ∷ ls) at zero h = omega arith
@@ -497,13 +490,13 @@ offsets-length [] at = refl
 offsets-length (l ∷ ls) at = ap suc (offsets-length ls (at + length l))
 
 details-there : (e : Entry) (more store : List ℕ) (at : ℕ) → length (e .details) < 0x1_0000_0000 → drop at store ≡ stored e ++ more → detailsAt store at ≡ e .details
-unfolding detailsAt stored head4
+unfolding detailsAt stored
 details-there e more store at small h =
     let n : ℕ = length (e .details) in
     let d : drop (at + 4) store ≡ e .details ++ more = sym (drop-drop 4 at store) ∙ ap (drop 4) h in
-    let t : take 4 (drop at store) ≡ head4 n = ap (take 4) h in
-    ap₂ (λ x y. take (littleEndian x) y) t d
-    ∙ ap (λ k. take k (e .details ++ more)) (head4-says n small)
+    let t : take 4 (drop at store) ≡ le 4 n = ap (take 4) h in
+    ap₂ (λ x y. take (value x) y) t d
+    ∙ ap (λ k. take k (e .details ++ more)) (value-le 4 n small)
     ∙ take-append-seam (e .details) more
 
 getD-stored : (es : List Entry) (i : ℕ) (d : Entry) → i < length es → getD (map stored es) i [] ≡ stored (getD es i d)

@@ -5,6 +5,7 @@ use mathlib.Core.Path.{_≡_}
 use mathlib.Core.List.{List, [], _∷_, _++_}
 use lib.Dec.{T}
 use lib.ListN.{length, take}
+use Rattle.paper.specs.Text.Scalar.{lf}
 use Rattle.paper.specs.Lists.{cut}
 use Rattle.paper.specs.CharDef.Reading.{Reading, Fits, joinLF, noLF, isLF}
 use Rattle.paper.specs.CharDef.Read.{accepted, refused, readText}
@@ -14,7 +15,7 @@ use Rattle.paper.specs.CharDef.Read.{accepted, refused, readText}
 -- lines, each with its LF
 abbrev pub ended : List (List ℕ) → List ℕ
 ended [] = []
-ended (l ∷ ls) = l ++ (10 ∷ ended ls)
+ended (l ∷ ls) = l ++ (lf ∷ ended ls)
 
 -- the bytes up to and including the LF that ends the line before line `place`; none before line 1
 unfoldable pub linesBefore : ℕ → List ℕ → List ℕ
@@ -39,6 +40,6 @@ pub record FirstBad (n place : ℕ) (bytes : List ℕ) : Type 0 where
   pub reading : Reading
   pub before : readText (linesBefore place bytes) ≡ accepted reading
   -- nothing put after it and its LF makes the text acceptable
-  pub after : (u : List ℕ) (r : Reading) → Fits (throughLine place bytes ++ (10 ∷ u)) r → ⊥
+  pub after : (u : List ℕ) (r : Reading) → Fits (throughLine place bytes ++ (lf ∷ u)) r → ⊥
   -- what stands behind the line does not matter to the refusal
   pub refusal : readText (throughLine place bytes) ≡ refused n place

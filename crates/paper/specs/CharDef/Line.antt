@@ -8,7 +8,7 @@ use mathlib.Core.List.{List, [], _∷_, _++_}
 use lib.Dec.{T, eqb}
 use Rattle.paper.specs.Sizes.{maxU16, maxU32}
 use Rattle.paper.specs.Lists.{all, full, nothingOr}
-use Rattle.paper.specs.Text.Scalar.{between, isWhite, isSep}
+use Rattle.paper.specs.Text.Scalar.{between, isWhite, isSep, hash, dot, digit0, letterX}
 use Rattle.paper.specs.Numbers.Numeral.{Numeral}
 
 pub data Line : Type 0 where
@@ -19,7 +19,7 @@ pub data Line : Type 0 where
   range : ℕ → ℕ → List (List ℕ) → Line
 
 abbrev pub isHash : ℕ → Bool
-isHash c = eqb c 35
+isHash c = eqb c hash
 
 -- a character of a name of a range line: no white space, no comment
 unfoldable pub isNameChar : ℕ → Bool
@@ -38,7 +38,7 @@ comment cs = nothingOr isHash cs
 abbrev pub begins0x : List ℕ → Bool
 begins0x [] = false
 begins0x (c ∷ []) = false
-begins0x (c ∷ d ∷ cs) = eqb c 48 && eqb d 120
+begins0x (c ∷ d ∷ cs) = eqb c digit0 && eqb d letterX
 
 abbrev pub beginsWhite : List ℕ → Bool
 beginsWhite [] = false
@@ -47,7 +47,7 @@ beginsWhite (c ∷ cs) = isWhite c
 -- `0x`, so many times
 abbrev pub zeroXs : ℕ → List ℕ
 zeroXs zero = []
-zeroXs (suc k) = 48 ∷ 120 ∷ zeroXs k
+zeroXs (suc k) = digit0 ∷ letterX ∷ zeroXs k
 
 -- D800 to DFFF stand for FFFD
 unfoldable pub standsFor : ℕ → ℕ
@@ -68,7 +68,7 @@ pub record Bound (least : ℕ) (cs : List ℕ) (bound : ℕ) : Type 0 where
 -- one bound is both; or two joined by `..`, the second with or without `0x`
 pub data Bounds (cs : List ℕ) (lower upper : ℕ) : Type 0 where
   one : Bound 1 cs lower → upper ≡ lower → Bounds cs lower upper
-  two : (left right : List ℕ) → cs ≡ left ++ (46 ∷ 46 ∷ right) → Bound 1 left lower → Bound 0 right upper → Bounds cs lower upper
+  two : (left right : List ℕ) → cs ≡ left ++ (dot ∷ dot ∷ right) → Bound 1 left lower → Bound 0 right upper → Bounds cs lower upper
 
 -- names, each after white space
 pub data Names : List ℕ → List (List ℕ) → Type 0 where

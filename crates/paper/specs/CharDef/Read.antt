@@ -10,9 +10,9 @@ use lib.ListN.{length}
 use Rattle.paper.specs.Refusals.{textLong, textIllFormed, rangeParts, boundUnreadable, boundMark, categoryFields, categoryNumber, rangesFull, referencesFull, categoryLinesFull, categoriesFull, nameBytesFull}
 use Rattle.paper.specs.Sizes.{maxTextBytes, maxCategories, maxNameBytes, maxCategoryLines, maxRanges, maxReferences, maxU16, maxU32}
 use Rattle.paper.specs.Lists.{any, cut, push, words, until, trimStart, trimEnd, same, positionOf}
-use Rattle.paper.specs.Text.Scalar.{isWhite, isSep, utf8}
+use Rattle.paper.specs.Text.Scalar.{isWhite, isSep, utf8, dot, digit0, letterX}
 use Rattle.paper.specs.CharDef.Line.{Line, blank, category, range, begins0x, isHash, standsFor}
-use Rattle.paper.specs.CharDef.Reading.{Definition, Reading, nameBytes, references}
+use Rattle.paper.specs.CharDef.Reading.{Definition, Reading, nameBytes, references, isLF}
 use Rattle.paper.specs.Text.Decode.{Text, broken, chars, decode}
 use Rattle.paper.specs.Numbers.Numeral.{numeral}
 
@@ -30,13 +30,13 @@ pub data BoundFound : Type 0 where
 abbrev pub strip0x : List ℕ → List ℕ
 strip0x [] = []
 strip0x (c ∷ []) = c ∷ []
-strip0x (c ∷ d ∷ cs) = let r = strip0x cs in cond (eqb c 48 && eqb d 120) r (c ∷ d ∷ cs)
+strip0x (c ∷ d ∷ cs) = let r = strip0x cs in cond (eqb c digit0 && eqb d letterX) r (c ∷ d ∷ cs)
 
 -- split at each `..` from the left
 abbrev pub parts : List ℕ → List (List ℕ)
 parts [] = [] ∷ []
 parts (c ∷ []) = (c ∷ []) ∷ []
-parts (c ∷ d ∷ cs) = let r = parts cs in let q = parts (d ∷ cs) in cond (eqb c 46 && eqb d 46) ([] ∷ r) (push c q)
+parts (c ∷ d ∷ cs) = let r = parts cs in let q = parts (d ∷ cs) in cond (eqb c dot && eqb d dot) ([] ∷ r) (push c q)
 
 unfoldable pub checkedBound : Option ℕ → BoundFound
 unfolding standsFor
@@ -176,7 +176,7 @@ nothingRead = record { names = []; definitions = []; ranges = [] }
 unfoldable pub readChars : Text → Answer
 unfolding readLines nothingRead
 readChars (broken at) = refused textIllFormed at
-readChars (chars cs) = readLines 1 (cut (λ c. eqb c 10) cs) nothingRead
+readChars (chars cs) = readLines 1 (cut isLF cs) nothingRead
 
 unfoldable pub readText : List ℕ → Answer
 unfolding readChars decode

@@ -7,8 +7,8 @@ use mathlib.Core.List.{List, [], _∷_, _++_, map}
 use lib.Dec.{T, eqb}
 use lib.ListN.{length}
 use Rattle.paper.specs.Sizes.{maxTextBytes, maxCategories, maxNameBytes, maxCategoryLines, maxRanges, maxReferences}
-use Rattle.paper.specs.Lists.{all, empty, joined, firstSeen, positionOf, same, sum}
-use Rattle.paper.specs.Text.Scalar.{utf8, isScalar}
+use Rattle.paper.specs.Lists.{all, empty, joined, firstSeen, positionOf, same, sum, joinWith}
+use Rattle.paper.specs.Text.Scalar.{utf8, isScalar, lf}
 use Rattle.paper.specs.CharDef.Line.{Line, blank, category, range, LineFits}
 
 pub record Definition : Type 0 where
@@ -81,12 +81,10 @@ pub record Within (r : Reading) : Type 0 where
 
 -- lines with LF between them
 abbrev pub joinLF : List (List ℕ) → List ℕ
-joinLF [] = []
-joinLF (l ∷ []) = l
-joinLF (l ∷ m ∷ ls) = l ++ (10 ∷ joinLF (m ∷ ls))
+joinLF ls = joinWith lf ls
 
 abbrev pub noLF : List ℕ → Bool
-noLF cs = all (λ c. not (eqb c 10)) cs
+noLF cs = all (λ c. not (eqb c lf)) cs
 
 -- line by line
 pub data EachFits : List (List ℕ) → List Line → Type 0 where
@@ -110,4 +108,4 @@ pub record Fits (bytes : List ℕ) (r : Reading) : Type 0 where
 -- ---- lines of a text
 
 abbrev pub isLF : ℕ → Bool
-isLF c = eqb c 10
+isLF c = eqb c lf

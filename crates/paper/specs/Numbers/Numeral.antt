@@ -7,7 +7,7 @@ use mathlib.Core.List.{List, [], _∷_, _++_}
 use mathlib.Core.Option.{Option, none, some}
 use lib.Dec.{T, leb, ltb, eqb}
 use Rattle.paper.specs.Lists.{full}
-use Rattle.paper.specs.Text.Scalar.{between}
+use Rattle.paper.specs.Text.Scalar.{between, plusSign, minusSign}
 
 -- ---- characters
 
@@ -28,7 +28,7 @@ valueAfter base high (d ∷ ds) = valueAfter base (high * base + digitOf d) ds
 -- nothing, or `+`
 abbrev pub plus : List ℕ → Bool
 plus [] = true
-plus (c ∷ []) = eqb c 43
+plus (c ∷ []) = eqb c plusSign
 plus (c ∷ d ∷ cs) = false
 
 -- ---- the pieces of a line
@@ -47,7 +47,7 @@ pub record Numeral (base limit : ℕ) (cs : List ℕ) (n : ℕ) : Type 0 where
 
 abbrev pub dropPlus : List ℕ → List ℕ
 dropPlus [] = []
-dropPlus (c ∷ cs) = cond (eqb c 43) cs (c ∷ cs)
+dropPlus (c ∷ cs) = cond (eqb c plusSign) cs (c ∷ cs)
 
 unfoldable pub spelledBy : ℕ → ℕ → List ℕ → Option ℕ
 unfolding isDigit valueAfter
@@ -75,7 +75,7 @@ pub data Integer : Type 0 where
 -- `-` and digits
 pub record Negative (base limit : ℕ) (cs : List ℕ) (n : ℕ) : Type 0 where
   pub digits : List ℕ
-  pub whole : cs ≡ 45 ∷ digits
+  pub whole : cs ≡ minusSign ∷ digits
   pub is-spelled : Spelled base limit digits n
 
 -- an optional sign and one or more digits: up to `top` with `+` or no sign, up to `low` with `-`
@@ -94,7 +94,7 @@ asNeg (some n) = some (neg n)
 unfoldable pub signedNumeral : ℕ → ℕ → ℕ → List ℕ → Option Integer
 unfolding spelledBy numeral
 signedNumeral base top low [] = none
-signedNumeral base top low (c ∷ cs) = cond (eqb c 45) (asNeg (spelledBy base low cs)) (asPos (numeral base top (c ∷ cs)))
+signedNumeral base top low (c ∷ cs) = cond (eqb c minusSign) (asNeg (spelledBy base low cs)) (asPos (numeral base top (c ∷ cs)))
 
 -- ---- sixteen bits
 

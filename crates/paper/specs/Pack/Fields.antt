@@ -7,6 +7,46 @@ use lib.ListN.{length}
 use Rattle.paper.specs.Lists.{joined}
 use Rattle.paper.specs.CharDef.Reading.{Definition, Range, Reading, references}
 
+-- the widths of fields, in bits
+abbrev pub versionWidth : ℕ
+versionWidth = 8
+
+abbrev pub categoriesWidth : ℕ
+categoriesWidth = 10
+
+abbrev pub linesWidth : ℕ
+linesWidth = 10
+
+abbrev pub rangesWidth : ℕ
+rangesWidth = 12
+
+abbrev pub referencesWidth : ℕ
+referencesWidth = 14
+
+abbrev pub nameLengthWidth : ℕ
+nameLengthWidth = 15
+
+abbrev pub byteWidth : ℕ
+byteWidth = 8
+
+abbrev pub flagWidth : ℕ
+flagWidth = 1
+
+abbrev pub lengthWidth : ℕ
+lengthWidth = 32
+
+abbrev pub boundWidth : ℕ
+boundWidth = 16
+
+abbrev pub countWidth : ℕ
+countWidth = 14
+
+abbrev pub numberWidth : ℕ
+numberWidth = 9
+
+abbrev pub version : ℕ
+version = 1
+
 -- a field: its width and its value
 abbrev pub Field : Type 0
 Field = ℕ × ℕ
@@ -20,17 +60,17 @@ field w n = (w, n)
 unfoldable pub head : Reading → List Field
 unfolding references
 head r =
-    field 8 1 ∷ field 10 (length (r .names)) ∷ field 10 (length (r .definitions)) ∷ field 12 (length (r .ranges))
-    ∷ field 14 (references (r .ranges)) ∷ []
+    field versionWidth version ∷ field categoriesWidth (length (r .names)) ∷ field linesWidth (length (r .definitions))
+    ∷ field rangesWidth (length (r .ranges)) ∷ field referencesWidth (references (r .ranges)) ∷ []
 
 abbrev pub nameFields : List ℕ → List Field
-nameFields name = field 15 (length name) ∷ map (field 8) name
+nameFields name = field nameLengthWidth (length name) ∷ map (field byteWidth) name
 
 abbrev pub definitionFields : Definition → List Field
-definitionFields d = field 1 (flag (d .invoke)) ∷ field 1 (flag (d .group)) ∷ field 32 (d .len) ∷ []
+definitionFields d = field flagWidth (flag (d .invoke)) ∷ field flagWidth (flag (d .group)) ∷ field lengthWidth (d .len) ∷ []
 
 abbrev pub rangeFields : Range → List Field
-rangeFields g = field 16 (g .lower) ∷ field 16 (g .upper) ∷ field 14 (length (g .categories)) ∷ map (field 9) (g .categories)
+rangeFields g = field boundWidth (g .lower) ∷ field boundWidth (g .upper) ∷ field countWidth (length (g .categories)) ∷ map (field numberWidth) (g .categories)
 
 unfoldable pub packFields : Reading → List Field
 unfolding head

@@ -23,13 +23,13 @@ use Rattle.paper.specs.Sizes.{maxCategories, maxNameBytes, maxCategoryLi
 use Rattle.paper.specs.Lists.{all, any, joined, same}
 use Rattle.paper.specs.CharDef.Reading.{Definition, Range, Reading, references}
 use Rattle.paper.specs.CharDef.Read.{Answer, accepted, refused}
-use Rattle.paper.specs.Pack.Fields.{bits}
+use Rattle.paper.specs.Pack.Fields.{bits, version, versionWidth, categoriesWidth, linesWidth, rangesWidth, referencesWidth, nameLengthWidth, byteWidth, flagWidth, lengthWidth, boundWidth, countWidth, numberWidth}
 use Rattle.paper.specs.Pack.Rules.{formed, isBound}
 
 infixr 20 _▹_
 -- the bits of bytes, in order
 abbrev pub unpackBits : List ℕ → List ℕ
-unpackBits bytes = joined (map (bits 8) bytes)
+unpackBits bytes = joined (map (bits byteWidth) bytes)
 
 -- ---- a field's bits
 
@@ -54,7 +54,7 @@ afterByte (taken b s) go = consTaken b (go s)
 
 abbrev pub takeBytes : ℕ → List ℕ → Taken (List ℕ)
 takeBytes zero s = taken [] s
-takeBytes (suc n) s = afterByte (takeNumber 8 0 s) (λ t. takeBytes n t)
+takeBytes (suc n) s = afterByte (takeNumber byteWidth 0 s) (λ t. takeBytes n t)
 
 -- ---- readers
 
@@ -97,7 +97,7 @@ free n = true
 -- n bytes as one field
 unfoldable pub bytesField : ℕ → (List ℕ → Bool) → Reader (List ℕ)
 unfolding settle
-bytesField n ok at s = settle packRule (8 * n) at ok (takeBytes n s)
+bytesField n ok at s = settle packRule (byteWidth * n) at ok (takeBytes n s)
 
 -- a rule on what was read
 unfoldable pub demand : Bool → Reader (Unit {0})
@@ -128,7 +128,7 @@ nameRule before n = formed n && not (any (same n) before)
 
 unfoldable pub readName : ℕ → List (List ℕ) → Reader (List ℕ)
 readName used before =
-    number 15 (lengthRule used) ▹ λ n.
+    number nameLengthWidth (lengthRule used) ▹ λ n.
     bytesField n (nameRule before)
 
 unfoldable pub readNames : ℕ → ℕ → List (List ℕ) → Reader (List (List ℕ))
@@ -140,9 +140,9 @@ readNames (suc k) used before =
 
 unfoldable pub readDefinition : Reader Definition
 readDefinition =
-    number 1 free ▹ λ invoke.
-    number 1 free ▹ λ group.
-    number 32 free ▹ λ len.
+    number flagWidth free ▹ λ invoke.
+    number flagWidth free ▹ λ group.
+    number lengthWidth free ▹ λ len.
     give (record { invoke = eqb invoke 1; group = eqb group 1; len = len })
 
 -- with `known` categories and `total` references, `used` of them so far
@@ -151,10 +151,10 @@ countRule total used n = leb (used + n) total
 
 unfoldable pub readRange : ℕ → ℕ → ℕ → Reader Range
 readRange known total used =
-    number 16 isBound ▹ λ lower.
-    number 16 isBound ▹ λ upper.
-    number 14 (countRule total used) ▹ λ count.
-    many count (number 9 (λ c. ltb c known)) ▹ λ categories.
+    number boundWidth isBound ▹ λ lower.
+    number boundWidth isBound ▹ λ upper.
+    number countWidth (countRule total used) ▹ λ count.
+    many count (number numberWidth (λ c. ltb c known)) ▹ λ categories.
     give (record { lower = lower; upper = upper; categories = categories })
 
 unfoldable pub readRanges : ℕ → ℕ → ℕ → ℕ → Reader (List Range)
@@ -178,15 +178,15 @@ readBody categories lines ranges total =
 -- what stands behind the version
 unfoldable pub readCounted : Reader Reading
 readCounted =
-    number 10 (upTo maxCategories) ▹ λ categories.
-    number 10 (upTo maxCategoryLines) ▹ λ lines.
-    number 12 (upTo maxRanges) ▹ λ ranges.
-    number 14 (upTo maxReferences) ▹ λ total.
+    number categoriesWidth (upTo maxCategories) ▹ λ categories.
+    number linesWidth (upTo maxCategoryLines) ▹ λ lines.
+    number rangesWidth (upTo maxRanges) ▹ λ ranges.
+    number referencesWidth (upTo maxReferences) ▹ λ total.
     readBody categories lines ranges total
 
 unfoldable pub readFields : Reader Reading
 readFields =
-    fieldOr packVersion 8 (eqb 1) ▹ λ version.
+    fieldOr packVersion versionWidth (eqb version) ▹ λ one.
     readCounted
 
 unfoldable pub readAll : Reader Reading

@@ -17,6 +17,34 @@ isScalar c = between 0 0xD7FF c || between 0xE000 0x10FFFF c
 abbrev pub IsScalar : ℕ → Type 0
 IsScalar c = T (isScalar c)
 
+-- characters that the paper writes as themselves or by name
+abbrev pub lf : ℕ
+lf = 0x0A
+
+abbrev pub cr : ℕ
+cr = 0x0D
+
+abbrev pub hash : ℕ
+hash = 0x23
+
+abbrev pub plusSign : ℕ
+plusSign = 0x2B
+
+abbrev pub comma : ℕ
+comma = 0x2C
+
+abbrev pub minusSign : ℕ
+minusSign = 0x2D
+
+abbrev pub dot : ℕ
+dot = 0x2E
+
+abbrev pub digit0 : ℕ
+digit0 = 0x30
+
+abbrev pub letterX : ℕ
+letterX = 0x78
+
 -- RFC 3629, section 3: the table, and its six bits in each octet after the first
 unfoldable pub utf8Of : ℕ → List ℕ
 utf8Of c =

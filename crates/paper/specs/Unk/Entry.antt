@@ -6,22 +6,23 @@ use mathlib.Core.Bool.{Bool, false, not, cond}
 use mathlib.Core.List.{List, [], _∷_, _++_, map}
 use lib.Dec.{T}
 use lib.ListN.{length, take, drop}
+use Rattle.paper.specs.Numbers.Bytes.{le, value}
 use Rattle.paper.specs.Sizes.{maxTextBytes, maxUnkEntries, maxU32, maxI32, lowI32}
 use Rattle.paper.specs.Lists.{empty, all, joined, same, is, without, joinWith}
-use Rattle.paper.specs.Text.Scalar.{utf8, isScalar}
+use Rattle.paper.specs.Text.Scalar.{utf8, isScalar, lf, cr, comma}
 use Rattle.paper.specs.Numbers.Numeral.{Numeral, Integer, SignedNumeral, wrap16}
 
 abbrev pub endsCR : List ℕ → Bool
 endsCR [] = false
-endsCR (c ∷ []) = is 13 c
+endsCR (c ∷ []) = is cr c
 endsCR (c ∷ d ∷ cs) = endsCR (d ∷ cs)
 
 -- a line ends at LF or at CR LF; the last line may end with the text, and what stands behind the last LF is a line if there is any
 pub data Lines : List ℕ → List (List ℕ) → Type 0 where
   no-line : Lines [] []
-  last : {cs : List ℕ} → T (not (empty cs)) → T (without 10 cs) → Lines cs (cs ∷ [])
-  at-LF : {cs l : List ℕ} {ls : List (List ℕ)} (r : List ℕ) → cs ≡ l ++ (10 ∷ r) → T (without 10 l) → T (not (endsCR l)) → Lines r ls → Lines cs (l ∷ ls)
-  at-CRLF : {cs l : List ℕ} {ls : List (List ℕ)} (r : List ℕ) → cs ≡ l ++ (13 ∷ 10 ∷ r) → T (without 10 l) → Lines r ls → Lines cs (l ∷ ls)
+  last : {cs : List ℕ} → T (not (empty cs)) → T (without lf cs) → Lines cs (cs ∷ [])
+  at-LF : {cs l : List ℕ} {ls : List (List ℕ)} (r : List ℕ) → cs ≡ l ++ (lf ∷ r) → T (without lf l) → T (not (endsCR l)) → Lines r ls → Lines cs (l ∷ ls)
+  at-CRLF : {cs l : List ℕ} {ls : List (List ℕ)} (r : List ℕ) → cs ≡ l ++ (cr ∷ lf ∷ r) → T (without lf l) → Lines r ls → Lines cs (l ∷ ls)
 
 -- ---- a line
 
@@ -39,8 +40,8 @@ pub record UnkLine (cs : List ℕ) (e : Entry) : Type 0 where
   pub field₂ : List ℕ
   pub field₃ : List ℕ
   pub more : List (List ℕ)
-  pub whole : cs ≡ joinWith 44 (e .category ∷ field₁ ∷ field₂ ∷ field₃ ∷ more)
-  pub parted : T (all (without 44) (e .category ∷ field₁ ∷ field₂ ∷ field₃ ∷ more))
+  pub whole : cs ≡ joinWith comma (e .category ∷ field₁ ∷ field₂ ∷ field₃ ∷ more)
+  pub parted : T (all (without comma) (e .category ∷ field₁ ∷ field₂ ∷ field₃ ∷ more))
   pub number₁ : ℕ
   pub lefts : Numeral 10 maxU32 field₁ number₁
   pub number₂ : ℕ
@@ -54,13 +55,8 @@ pub record UnkLine (cs : List ℕ) (e : Entry) : Type 0 where
 
 -- ---- what entries say
 
--- a length as four bytes, the lowest first
-unfoldable pub head4 : ℕ → List ℕ
-head4 n = n % 256 ∷ n / 256 % 256 ∷ n / 65536 % 256 ∷ n / 16777216 % 256 ∷ []
-
 unfoldable pub stored : Entry → List ℕ
-unfolding head4
-stored e = head4 (length (e .details)) ++ e .details
+stored e = le 4 (length (e .details)) ++ e .details
 
 -- where each begins, from `at` on
 abbrev pub offsetsFrom : ℕ → List (List ℕ) → List ℕ
@@ -112,10 +108,6 @@ pub record UnkFits (names : List (List ℕ)) (bytes : List ℕ) (u : Unk) : Type
 
 -- ---- the details of an entry, from the store
 
-abbrev pub littleEndian : List ℕ → ℕ
-littleEndian [] = 0
-littleEndian (b ∷ bs) = b + 256 * littleEndian bs
-
 -- four bytes say a length, and so many bytes follow
 unfoldable pub detailsAt : List ℕ → ℕ → List ℕ
-detailsAt store at = take (littleEndian (take 4 (drop at store))) (drop (at + 4) store)
+detailsAt store at = take (value (take 4 (drop at store))) (drop (at + 4) store)

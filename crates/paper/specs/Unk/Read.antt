@@ -6,6 +6,7 @@ use mathlib.Core.Option.{Option, none, some}
 use mathlib.Core.List.{List, [], _∷_}
 use lib.Dec.{ltb}
 use lib.ListN.{length}
+use Rattle.paper.specs.Text.Scalar.{lf, cr, comma}
 use Rattle.paper.specs.Refusals.{textLong, textIllFormed, unkFields, unkNumber, unkEntriesFull}
 use Rattle.paper.specs.Sizes.{maxTextBytes, maxUnkEntries, maxU32, maxI32, lowI32}
 use Rattle.paper.specs.Lists.{empty, cut, is, joinWith}
@@ -16,7 +17,7 @@ use Rattle.paper.specs.Unk.Entry.{Entry, Unk, unkOf}
 -- one CR at the end is dropped
 abbrev pub dropCR : List ℕ → List ℕ
 dropCR [] = []
-dropCR (c ∷ []) = cond (is 13 c) [] (c ∷ [])
+dropCR (c ∷ []) = cond (is cr c) [] (c ∷ [])
 dropCR (c ∷ d ∷ cs) = c ∷ dropCR (d ∷ cs)
 
 abbrev pub fromPieces : List (List ℕ) → List (List ℕ)
@@ -25,7 +26,7 @@ fromPieces (l ∷ []) = cond (empty l) [] (l ∷ [])
 fromPieces (l ∷ m ∷ ls) = dropCR l ∷ fromPieces (m ∷ ls)
 
 unfoldable pub unkLines : List ℕ → List (List ℕ)
-unkLines bytes = fromPieces (cut (is 10) bytes)
+unkLines bytes = fromPieces (cut (is lf) bytes)
 
 pub data UnkFound : Type 0 where
   entry : Entry → UnkFound
@@ -50,7 +51,7 @@ fromFields (a ∷ b ∷ c ∷ d ∷ ds) =
 -- the entry that a line says, or what is wrong with it: 23 or 24
 unfoldable pub unkLineOf : List ℕ → UnkFound
 unfolding fromFields
-unkLineOf cs = fromFields (cut (is 44) cs)
+unkLineOf cs = fromFields (cut (is comma) cs)
 
 -- ---- the answer
 
