@@ -1,4 +1,3 @@
 pub mod Line
 pub mod Reading
-pub mod Read
 pub mod Bad

@@ -2,9 +2,10 @@ pub mod Sizes
 pub mod Refusals
 pub mod Lists
 pub mod Text
-pub mod CharDef
 pub mod Numbers
+pub mod CharDef
 pub mod Rows
 pub mod Pack
-pub mod Tables
 pub mod Unk
+pub mod Tables
+pub mod Computed

@@ -9,9 +9,9 @@ use lib.Dec.{ltb}
 use lib.ListN.{length}
 use mir.Facts.{ltb-no, no-ltb}
 use Rattle.paper.specs.Lists.{cut}
-use Rattle.paper.specs.CharDef.Reading.{Reading, readingOf, nameBytes, references, Within, Fits, isLF}
-use Rattle.paper.specs.Text.Decode.{Text, broken, chars, decode}
-use Rattle.paper.specs.CharDef.Read.{accepted, refused, readLines, nothingRead, readChars, readText}
+use Rattle.paper.specs.CharDef.Reading.{Reading, readingOf, nameBytes, references, Within, Fits, isLF, accepted, refused}
+use Rattle.paper.specs.Computed.Decode.{Text, broken, chars, decode}
+use Rattle.paper.specs.Computed.ReadText.{readLines, nothingRead, readChars, readText}
 use Rattle.paper.proofs.Lists.Facts.{T→false}
 use Rattle.paper.proofs.CharDef.Sound.{false→T, cut-pieces}
 use Rattle.paper.proofs.Text.Code.{decode-complete, decode-sound}

@@ -14,12 +14,12 @@ use lib.Seq.{take-length, drop-nil}
 use borrow.Author.Tests.{ltb-true, ltb-false}
 use Rattle.paper.specs.Lists.{all, any, same, words, cut}
 use Rattle.paper.specs.Text.Scalar.{isScalar, isWhite, isSep, utf8, WellFormed, nothing, LongestPrefix}
-use Rattle.paper.specs.CharDef.Line.{Line, blank, category, range, begins0x, standsFor}
-use Rattle.paper.specs.CharDef.Reading.{Definition, Reading, Fits, nameBytes, references, isLF}
-use Rattle.paper.specs.Text.Decode.{First, bad, good, first, Text, broken, chars, consText, onward, decodeFrom, decode}
-use Rattle.paper.specs.Numbers.Numeral.{numeral}
-use Rattle.paper.specs.CharDef.Read.{Found, found, wrong, BoundFound, boundIs, noBound, strip0x, parts, checkedBound, boundOf, fromBounds, fromParts, rangeOf, fromNumbers, categoryOf, body, bodyLine, lineOf, go-on, stop, Interned, names-are, full-at, internOne, afterOne, intern, addRange, addDefinition, enter, enterFound, verdict, Answer, accepted, refused, readLines, nothingRead, readChars, readText}
 use Rattle.paper.specs.CharDef.Bad.{FirstBad}
+use Rattle.paper.specs.CharDef.Line.{Line, blank, category, range, begins0x, standsFor}
+use Rattle.paper.specs.CharDef.Reading.{Definition, Reading, Fits, nameBytes, references, isLF, Answer, accepted, refused}
+use Rattle.paper.specs.Computed.Decode.{First, bad, good, first, Text, broken, chars, consText, onward, decodeFrom, decode}
+use Rattle.paper.specs.Computed.Numeral.{numeral}
+use Rattle.paper.specs.Computed.ReadText.{Found, found, wrong, BoundFound, boundIs, noBound, strip0x, parts, checkedBound, boundOf, fromBounds, fromParts, rangeOf, fromNumbers, categoryOf, body, bodyLine, lineOf, go-on, stop, Interned, names-are, full-at, internOne, afterOne, intern, addRange, addDefinition, enter, enterFound, verdict, readLines, nothingRead, readChars, readText}
 use Rattle.paper.proofs.CharDef.Sound.{zero-one}
 use Rattle.paper.proofs.Text.Code.{decode-complete, decode-sound, broken-chars}
 use Rattle.paper.proofs.Text.Prefix.{first-shapes, chars-broken, unbroken, prefix-fits, prefix-longest}

@@ -12,12 +12,13 @@ use mir.Facts.{and-yes, yes-and, T-not, not-T, leb-yes, ltb-yes, yes-ltb, yes-le
 use borrow.Author.Tests.{ne-eqb}
 use Rattle.paper.specs.Lists.{empty, all, full, nothingOr, words, until, trimStart, trimEnd}
 use Rattle.paper.specs.Text.Scalar.{between, isWhite, isSep}
+use Rattle.paper.specs.Numbers.Numeral.{isDigit, plus, Numeral}
 use Rattle.paper.specs.CharDef.Line.{Line, blank, category, range, isHash, isNameChar, isFieldChar, comment, begins0x, beginsWhite, zeroXs, Bound, Bounds, one, two, Names, BlankLine, RangeLine, CategoryLine, LineFits}
-use Rattle.paper.specs.Numbers.Numeral.{isDigit, plus, Numeral, dropPlus, numeral}
-use Rattle.paper.specs.CharDef.Read.{found, BoundFound, strip0x, parts, boundOf, fromParts, rangeOf, categoryOf, body, bodyLine, lineOf}
+use Rattle.paper.specs.Computed.Numeral.{dropPlus, numeral}
+use Rattle.paper.specs.Computed.ReadText.{found, BoundFound, strip0x, parts, boundOf, fromParts, rangeOf, categoryOf, body, bodyLine, lineOf}
 use Rattle.paper.proofs.Lists.Facts.{T→true, T→false, apart, from-below, all-append, full-all, all-imp, full-imp, un, until-append, trimStart-append, trimEnd-append, words-word, words-run}
 use Rattle.paper.specs.CharDef.Line as line
-use Rattle.paper.specs.CharDef.Read as read
+use Rattle.paper.specs.Computed.ReadText as read
 
 -- ---- characters
 

@@ -14,10 +14,10 @@ use mir.Facts.{and-yes, yes-and, not-T, ltb-no, no-ltb, leb-yes}
 use borrow.Author.Tests.{eqb-true}
 use Rattle.paper.specs.Lists.{empty, all, cut}
 use Rattle.paper.specs.Text.Scalar.{isScalar, utf8Of, utf8}
-use Rattle.paper.specs.CharDef.Reading.{Reading, Fits, joinLF, noLF, isLF}
-use Rattle.paper.specs.Text.Decode.{Text, broken, chars, decode}
-use Rattle.paper.specs.CharDef.Read.{lineOf, body, bodyLine, Step, go-on, stop, enter, verdict, accepted, refused, afterLine, readLines, nothingRead, readChars, readText}
 use Rattle.paper.specs.CharDef.Bad.{FirstBad, ended, linesBefore, throughLine}
+use Rattle.paper.specs.CharDef.Reading.{Reading, Fits, joinLF, noLF, isLF, accepted, refused}
+use Rattle.paper.specs.Computed.Decode.{Text, broken, chars, decode}
+use Rattle.paper.specs.Computed.ReadText.{lineOf, body, bodyLine, Step, go-on, stop, enter, verdict, afterLine, readLines, nothingRead, readChars, readText}
 use Rattle.paper.proofs.Lists.Facts.{T→true, T→false, all-append, cut-run, pushAll-first}
 use Rattle.paper.proofs.CharDef.Sound.{false→T, zero-one, all-left, all-right, cut-pieces}
 use Rattle.paper.proofs.Text.Code.{decode-complete, decode-sound}

@@ -12,9 +12,10 @@ use mir.Facts.{and-yes, yes-and, or-yes, T-not, not-T, leb-yes}
 use borrow.Author.Tests.{eqb-false}
 use Rattle.paper.specs.Lists.{empty, all, full, nothingOr, select, push, cut, words, until, trimStart, trimEnd}
 use Rattle.paper.specs.Text.Scalar.{isWhite, isSep}
+use Rattle.paper.specs.Numbers.Numeral.{isDigit, valueAfter, Numeral}
 use Rattle.paper.specs.CharDef.Line.{Line, blank, category, range, isHash, isNameChar, isFieldChar, comment, begins0x, beginsWhite, zeroXs, standsFor, Bound, Bounds, one, two, Names, LineFits}
-use Rattle.paper.specs.Numbers.Numeral.{isDigit, valueAfter, Numeral, spelledBy, numeral}
-use Rattle.paper.specs.CharDef.Read.{found, wrong, BoundFound, noBound, strip0x, parts, checkedBound, boundOf, fromBounds, fromParts, rangeOf, fromNumbers, categoryOf, body, bodyLine, lineOf}
+use Rattle.paper.specs.Computed.Numeral.{spelledBy, numeral}
+use Rattle.paper.specs.Computed.ReadText.{found, wrong, BoundFound, noBound, strip0x, parts, checkedBound, boundOf, fromBounds, fromParts, rangeOf, fromNumbers, categoryOf, body, bodyLine, lineOf}
 use Rattle.paper.proofs.Lists.Facts.{true→T, apart, all-append, all-imp, un}
 use Rattle.paper.specs.CharDef.Line as line
 

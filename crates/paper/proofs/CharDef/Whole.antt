@@ -12,8 +12,8 @@ use mir.Facts.{and-yes, yes-and, leb-no, ltb-no, no-ltb, no-leb}
 use Rattle.paper.specs.Lists.{empty, all, any, joined, firstSeen, positionOf, same, sum, cut}
 use Rattle.paper.specs.Text.Scalar.{utf8}
 use Rattle.paper.specs.CharDef.Line.{Line, blank, category, range}
-use Rattle.paper.specs.CharDef.Reading.{Definition, Range, Reading, namesOf, definitionsOf, rangesOf, readingOf, nameBytes, references, Within, joinLF, noLF, EachFits, done, next, isLF}
-use Rattle.paper.specs.CharDef.Read.{Found, found, wrong, lineOf, Step, go-on, stop, Interned, names-are, full-at, internOne, afterOne, intern, addRange, addDefinition, enter, enterFound, accepted, refused, afterLine, readLines}
+use Rattle.paper.specs.CharDef.Reading.{Definition, Range, Reading, namesOf, definitionsOf, rangesOf, readingOf, nameBytes, references, Within, joinLF, noLF, EachFits, done, next, isLF, accepted, refused}
+use Rattle.paper.specs.Computed.ReadText.{Found, found, wrong, lineOf, Step, go-on, stop, Interned, names-are, full-at, internOne, afterOne, intern, addRange, addDefinition, enter, enterFound, afterLine, readLines}
 use Rattle.paper.proofs.Lists.Facts.{T→false, cut-run, pushAll-first}
 use Rattle.paper.proofs.Lists.Seen.{same-eq, same-refl, seen-snoc, seen-append, seen-has, position-stays}
 use Rattle.paper.proofs.CharDef.Complete.{line-complete}

@@ -7,10 +7,10 @@ use mathlib.Core.Path.{_≡_, refl}
 use mathlib.Core.List.{List, [], _∷_, _++_, map}
 use lib.ListN.{getD}
 use Rattle.paper.specs.Text.Scalar.{utf8Of}
-use Rattle.paper.specs.CharDef.Reading.{Reading}
-use Rattle.paper.specs.CharDef.Read.{Answer, accepted, refused, readText}
+use Rattle.paper.specs.CharDef.Reading.{Reading, Answer, accepted, refused}
 use Rattle.paper.specs.Rows.Covering.{categoriesAt, boundaries, rows}
 use Rattle.paper.specs.Pack.Fields.{packBytes}
+use Rattle.paper.specs.Computed.ReadText.{readText}
 
 -- the bytes of a quoted text
 unfoldable pub bytesOf : String → List ℕ

@@ -2,7 +2,8 @@
 -- Assumes nothing.
 use mathlib.Core.Path.{_≡_, refl}
 use mathlib.Core.List.{List, [], _∷_, map}
-use Rattle.paper.specs.CharDef.Read.{refused, readText}
+use Rattle.paper.specs.CharDef.Reading.{refused}
+use Rattle.paper.specs.Computed.ReadText.{readText}
 use Rattle.paper.proofs.Examples.CharDef.{Example, Holds, All, ex, refusal, bounds, names-at, rows-are, boundaries-are}
 
 unfoldable pub further : List Example

@@ -5,8 +5,9 @@ use Prim.Native.Nat.{ℕ}
 use mathlib.Core.Path.{_≡_, refl}
 use mathlib.Core.Bool.{true, false}
 use mathlib.Core.List.{List, [], _∷_, map}
-use Rattle.paper.specs.CharDef.Read.{Answer, accepted, refused, readText}
-use Rattle.paper.specs.Pack.Read.{readPack}
+use Rattle.paper.specs.CharDef.Reading.{Answer, accepted, refused}
+use Rattle.paper.specs.Computed.ReadPack.{readPack}
+use Rattle.paper.specs.Computed.ReadText.{readText}
 use Rattle.paper.proofs.Examples.CharDef.{bytesOf}
 
 pub record PackExample : Type 0 where

@@ -11,7 +11,8 @@ use lib.Dec.{leb, ltb, eqb}
 use mir.Facts.{and-yes, yes-leb}
 use borrow.Author.Tests.{eqb-true, ltb-true, ltb-false}
 use Rattle.paper.specs.Lists.{full}
-use Rattle.paper.specs.Numbers.Numeral.{isDigit, Numeral, spelledBy, numeral, Integer, SignedNumeral, Spelled, asNeg, asPos, meaning16, neg, pos, signedNumeral, wrap16}
+use Rattle.paper.specs.Numbers.Numeral.{isDigit, Numeral, Integer, SignedNumeral, Spelled, meaning16, neg, pos, wrap16}
+use Rattle.paper.specs.Computed.Numeral.{spelledBy, numeral, asNeg, asPos, signedNumeral}
 use Rattle.paper.proofs.Lists.Facts.{T→true, T→false}
 use Rattle.paper.proofs.CharDef.Sound.{zero-one, spelled-sound, numeral-sound}
 use Rattle.paper.proofs.CharDef.Complete.{digit-apart, numeral-chars, numeral-read}

@@ -9,10 +9,10 @@ use mathlib.Core.List.{List, [], _∷_, _++_, map, append-assoc}
 use lib.Dec.{T, ltb, eqb, eqb→eq}
 use lib.ListN.{length}
 use mir.Facts.{and-yes, yes-and, ltb-yes, yes-ltb}
-use Rattle.paper.specs.Numbers.Bytes.{isByte}
 use Rattle.paper.specs.Lists.{all, joined}
+use Rattle.paper.specs.Numbers.Bytes.{isByte}
 use Rattle.paper.specs.Pack.Fields.{Field, field, bits, fieldBits, byte, inBytes}
-use Rattle.paper.specs.Pack.Read.{unpackBits, Taken, short, taken, takeNumber, consTaken, afterByte, takeBytes, isPadding}
+use Rattle.paper.specs.Computed.ReadPack.{unpackBits, Taken, short, taken, takeNumber, consTaken, afterByte, takeBytes, isPadding}
 use Rattle.paper.proofs.Lists.Facts.{all-append}
 use Rattle.paper.proofs.CharDef.Sound.{zero-one, all-left, all-right}
 

@@ -11,12 +11,13 @@ use mir.Facts.{and-yes, yes-and, T-not, not-T, yes-leb, yes-ltb}
 use Rattle.paper.specs.Lists.{all, full, any, joined, freshAfter, firstSeen, same}
 use Rattle.paper.specs.Text.Scalar.{between, isScalar, utf8Of, utf8, WellFormed}
 use Rattle.paper.specs.CharDef.Line.{Line, blank, category, range, standsFor, Bound, Bounds, one, two, Names, no-names, more-names, isNameChar, isFieldChar, LineFits}
-use Rattle.paper.specs.CharDef.Reading.{Reading, namesOf, definitionsOf, rangesOf, readingOf, Within, joinLF, EachFits, done, next, Fits}
-use Rattle.paper.specs.Text.Decode.{decode}
-use Rattle.paper.specs.CharDef.Read.{readText, accepted}
+use Rattle.paper.specs.CharDef.Reading.{Reading, namesOf, definitionsOf, rangesOf, readingOf, Within, joinLF, EachFits, done, next, Fits, accepted}
 use Rattle.paper.specs.Pack.Fields.{packBytes}
-use Rattle.paper.specs.Pack.Read.{readPack}
-use Rattle.paper.specs.Pack.Rules.{isText, formed, hasBytes, onceAfter, isBound, bounded, sized, PackRules}
+use Rattle.paper.specs.Pack.Rules.{hasBytes, onceAfter, isBound, bounded, sized, PackRules}
+use Rattle.paper.specs.Computed.Decode.{decode}
+use Rattle.paper.specs.Computed.ReadPack.{readPack}
+use Rattle.paper.specs.Computed.ReadText.{readText}
+use Rattle.paper.specs.Computed.Rules.{isText, formed}
 use Rattle.paper.proofs.Lists.Facts.{all-append, all-imp}
 use Rattle.paper.proofs.CharDef.Sound.{false→T, all-left, all-right}
 use Rattle.paper.proofs.Text.Code.{decode-complete}

@@ -15,8 +15,9 @@ use mir.Facts.{and-yes, yes-and, leb-yes, yes-leb}
 use Rattle.paper.specs.Lists.{all}
 use Rattle.paper.specs.Text.Scalar.{WellFormed, nothing}
 use Rattle.paper.specs.CharDef.Reading.{Reading, nameBytes, references, Within}
-use Rattle.paper.specs.Text.Decode.{First, bad, good, first, Text, broken, chars, consText, onward, decodeFrom, decode}
-use Rattle.paper.specs.Pack.Rules.{numbered, Each, PackRules, bounded, formed, isText, keepsRules, once, sized, hasBytes, within}
+use Rattle.paper.specs.Pack.Rules.{numbered, Each, PackRules, bounded, once, sized, hasBytes}
+use Rattle.paper.specs.Computed.Decode.{First, bad, good, first, Text, broken, chars, consText, onward, decodeFrom, decode}
+use Rattle.paper.specs.Computed.Rules.{formed, isText, keepsRules, within}
 use Rattle.paper.proofs.Text.Code.{broken-chars}
 use Rattle.paper.proofs.Text.Prefix.{Shaped, first-shapes, prefix-longest}
 

@@ -13,18 +13,18 @@ use mir.Facts.{and-yes, yes-and, leb-yes, yes-leb, ltb-yes, yes-ltb}
 use borrow.Author.Tests.{eqb-true, eqb-false}
 use Rattle.paper.specs.Lists.{all, any, joined, same}
 use Rattle.paper.specs.Text.Scalar.{In, WellFormed, nothing, utf8-1, utf8-2, utf8-3-E0, utf8-3-E1, utf8-3-ED, utf8-3-EE, utf8-4-F0, utf8-4-F1, utf8-4-F4}
-use Rattle.paper.specs.CharDef.Reading.{Definition, Range, Reading, nameBytes, references, Within}
-use Rattle.paper.specs.CharDef.Read.{accepted}
+use Rattle.paper.specs.Numbers.Bytes.{isByte}
+use Rattle.paper.specs.CharDef.Reading.{Definition, Range, Reading, nameBytes, references, Within, accepted}
 use Rattle.paper.specs.Pack.Fields.{Field, flag, field, nameFields, definitionFields, rangeFields, packFields, bits, packBits, inBytes, packBytes}
-use Rattle.paper.specs.Pack.Rules.{numbered, formed, hasBytes, onceAfter, isBound, bounded, sized, PackRules}
-use Rattle.paper.specs.Pack.Read.{unpackBits, Taken, short, taken, takeNumber, takeBytes, Outcome, gave, broke, Reader, afterOutcome, _▹_, give, settle, fieldOr, number, free, bytesField, demand, isPadding, padding, many, lengthRule, nameRule, readName, readNames, readDefinition, countRule, readRange, readRanges, upTo, readBody, readCounted, readFields, readAll, answer, readPack}
+use Rattle.paper.specs.Pack.Rules.{numbered, hasBytes, onceAfter, isBound, bounded, sized, PackRules}
+use Rattle.paper.specs.Computed.ReadPack.{unpackBits, Taken, short, taken, takeNumber, takeBytes, Outcome, gave, broke, Reader, afterOutcome, _▹_, give, settle, fieldOr, number, free, bytesField, demand, isPadding, padding, many, lengthRule, nameRule, readName, readNames, readDefinition, countRule, readRange, readRanges, upTo, readBody, readCounted, readFields, readAll, answer, readPack}
+use Rattle.paper.specs.Computed.Rules.{formed}
 use Rattle.paper.proofs.Lists.Facts.{T→true, true→T}
 use Rattle.paper.proofs.CharDef.Sound.{zero-one}
 use Rattle.paper.proofs.Pack.Size.{bits-length, fields-length, width-map, pack-length}
 use Rattle.paper.proofs.CharDef.Whole.{refused-accepted}
 use Rattle.paper.proofs.Pack.Rules.{formed-is, is-formed, each-all, all-each}
 use Rattle.paper.proofs.Pack.Bits.{isBit, spell, spell-append, spell-bits, unpack-bits, number-taken, taken-number, bytes-taken, taken-bytes, inBytes-unpack, unpack-inBytes, inBytes-pad, inBytes-bytes, unpack-length}
-use Rattle.paper.specs.Numbers.Bytes.{isByte}
 
 -- ---- a reader reads a value from its bits, whatever follows
 

@@ -11,16 +11,15 @@ use lib.Dec.{T, ltb, eqb, eqb→eq}
 use lib.ListN.{length, length-append}
 use mir.Facts.{and-yes, yes-and, T-not, not-T, ltb-yes, yes-ltb}
 use Rattle.paper.specs.Lists.{all}
-use Rattle.paper.specs.CharDef.Reading.{Reading, references}
-use Rattle.paper.specs.CharDef.Read.{Answer, accepted, refused}
+use Rattle.paper.specs.Numbers.Bytes.{isByte}
+use Rattle.paper.specs.CharDef.Reading.{Reading, references, Answer, accepted, refused}
 use Rattle.paper.specs.Pack.Fields.{bits, packBits}
 use Rattle.paper.specs.Pack.Rules.{PackRules}
-use Rattle.paper.specs.Pack.Read.{unpackBits, Taken, short, taken, takeNumber, consTaken, afterByte, takeBytes, Outcome, gave, broke, Reader, afterOutcome, _▹_, give, settle, fieldOr, number, bytesField, demand, isPadding, padding, many, lengthRule, nameRule, readName, readNames, readDefinition, readRange, readRanges, upTo, readBody, readCounted, readFields, readAll, answer, readPack}
+use Rattle.paper.specs.Computed.ReadPack.{unpackBits, Taken, short, taken, takeNumber, consTaken, afterByte, takeBytes, Outcome, gave, broke, Reader, afterOutcome, _▹_, give, settle, fieldOr, number, bytesField, demand, isPadding, padding, many, lengthRule, nameRule, readName, readNames, readDefinition, readRange, readRanges, upTo, readBody, readCounted, readFields, readAll, answer, readPack}
 use Rattle.paper.proofs.Lists.Facts.{T→false}
 use Rattle.paper.proofs.CharDef.Sound.{zero-one, false→T, all-left}
 use Rattle.paper.proofs.CharDef.Whole.{refused-accepted}
 use Rattle.paper.proofs.Pack.Bits.{unpack-bits, number-taken, short-taken}
-use Rattle.paper.specs.Numbers.Bytes.{isByte}
 use Rattle.paper.proofs.Pack.Trip.{broke-got, fields-read, fields-of, pack-is}
 
 -- ---- an orderly reader

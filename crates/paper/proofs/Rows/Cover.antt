@@ -14,8 +14,8 @@ use borrow.Author.Tests.{eqb-true, eqb-false, leb-true, leb-false, ltb-false, lt
 use Rattle.paper.specs.Lists.{empty, all, any, select, joined, sum, freshAfter, firstSeen, positionOf, same, distinct}
 use Rattle.paper.specs.CharDef.Reading.{Range, Reading, Within, Fits}
 use Rattle.paper.specs.Rows.Covering.{holds, named, defaults, orElse, categoriesAt, insert, ascending, boundaries, rows, default}
-use Rattle.paper.specs.Pack.Rules.{numbered}
 use Rattle.paper.specs.Rows.Flat.{entryPart, evalRow, flatEntry, lastFrom, lastRow, offsetOf, rowNumber, shortRows}
+use Rattle.paper.specs.Pack.Rules.{numbered}
 use Rattle.paper.proofs.Lists.Facts.{T→true, T→false, true→T}
 use Rattle.paper.proofs.CharDef.Sound.{false→T}
 use Rattle.paper.proofs.Rows.Rising.{risingFrom, boundaries-rise, outside, categories-stay}

@@ -8,10 +8,10 @@ use lib.ListN.{length, drop, replicate, set, length-append, length-replicate}
 use lib.Seq.{sets, length-sets, take-append-seam, drop-append-add}
 use borrow.Author.Tests.{le-leb}
 use Rattle.paper.specs.Lists.{joined}
-use Rattle.paper.specs.CharDef.Reading.{Range, references}
 use Rattle.paper.specs.Numbers.Bytes.{le}
-use Rattle.paper.specs.Tables.Lent.{patch, padded}
+use Rattle.paper.specs.CharDef.Reading.{Range, references}
 use Rattle.paper.specs.Tables.Layout.{RangeSlot, slotBytes, rangeSlots, rangeTable, referenceTable, numbersOf}
+use Rattle.paper.specs.Tables.Lent.{patch, padded}
 use Rattle.paper.proofs.Tables.Laws.{patch-in, table-length}
 use Rattle.paper.proofs.Tables.Trip.{numbers-length, rows-length, wide-row, wide-number}
 

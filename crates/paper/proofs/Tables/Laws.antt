@@ -11,11 +11,10 @@ use lib.ListN.{length, take, drop, getD, length-append, length-drop, take-append
 use lib.Seq.{sets, sets-eq, drop-cons, take-at, drop-at, take-add, drop-drop, take-take, length-take-le, take-nil}
 use borrow.Author.Tests.{le-leb, lt-leb, leb-true}
 use mir.Facts.{and-yes, yes-and, ltb-yes, yes-eqb}
-use Rattle.paper.specs.Numbers.Bytes.{isByte}
 use Rattle.paper.specs.Lists.{all, joined}
-use Rattle.paper.specs.Numbers.Bytes.{le, value}
-use Rattle.paper.specs.Tables.Lent.{num, got, patch}
+use Rattle.paper.specs.Numbers.Bytes.{isByte, le, value}
 use Rattle.paper.specs.Tables.Layout.{pieces}
+use Rattle.paper.specs.Tables.Lent.{num, got, patch}
 
 -- ---- numbers
 

@@ -5,12 +5,12 @@ use mathlib.Core.Path.{_≡_, refl, ap, _∙_}
 use mathlib.Core.List.{List, _++_, map}
 use mathlib.Core.Option.{some}
 use lib.ListN.{length, replicate, length-map}
-use Rattle.paper.specs.CharDef.Reading.{Reading, Within, nameBytes, references}
 use Rattle.paper.specs.Numbers.Bytes.{le}
-use Rattle.paper.specs.Tables.Lent.{padded}
-use Rattle.paper.specs.Tables.Layout.{Tables, layout, behind, nameSlots, rangeSlots, nameSlotBytes, definitionBytes, slotBytes, numbersOf, countsOf, inRoom}
+use Rattle.paper.specs.CharDef.Reading.{Reading, Within, nameBytes, references}
 use Rattle.paper.specs.Pack.Rules.{PackRules}
-use Rattle.paper.specs.Tables.HandedIn.{handedIn}
+use Rattle.paper.specs.Tables.Layout.{Tables, layout, behind, nameSlots, rangeSlots, nameSlotBytes, definitionBytes, slotBytes, numbersOf, countsOf, inRoom}
+use Rattle.paper.specs.Tables.Lent.{padded}
+use Rattle.paper.specs.Computed.HandedIn.{handedIn}
 use Rattle.paper.proofs.Tables.Laws.{table-length}
 use Rattle.paper.proofs.Tables.Trip.{tables-is, handed-in, joined-length, places-length, rows-length, numbers-length, wide-place, wide-definition, wide-row, wide-number}
 

@@ -14,7 +14,7 @@ use mir.Facts.{and-yes, yes-and, or-yes, leb-yes, yes-leb}
 use borrow.Author.Tests.{eqb-true, le-leb, lt-leb, leb-true, leb-false}
 use Rattle.paper.specs.Lists.{all}
 use Rattle.paper.specs.Text.Scalar.{between, isScalar, utf8Of, utf8}
-use Rattle.paper.specs.Text.Decode.{First, bad, good, lowest, highest, isTail, two, three, four, first, Text, broken, chars, consText, onward, decodeFrom}
+use Rattle.paper.specs.Computed.Decode.{First, bad, good, lowest, highest, isTail, two, three, four, first, Text, broken, chars, consText, onward, decodeFrom}
 use Rattle.paper.proofs.Lists.Facts.{T→true, true→T}
 use Rattle.paper.proofs.CharDef.Sound.{zero-one}
 

@@ -13,7 +13,7 @@ use lib.Seq.{drop-nil, take-take, take-all}
 use mir.Facts.{and-yes, leb-yes}
 use borrow.Author.Tests.{leb-true, leb-false}
 use Rattle.paper.specs.Text.Scalar.{between, In, Tail, WellFormed, nothing, utf8-1, utf8-2, utf8-3-E0, utf8-3-E1, utf8-3-ED, utf8-3-EE, utf8-4-F0, utf8-4-F1, utf8-4-F4}
-use Rattle.paper.specs.Text.Decode.{First, bad, good, lowest, highest, isTail, two, three, four, first, Text, broken, chars, consText, onward, decodeFrom, decode}
+use Rattle.paper.specs.Computed.Decode.{First, bad, good, lowest, highest, isTail, two, three, four, first, Text, broken, chars, consText, onward, decodeFrom, decode}
 use Rattle.paper.proofs.Lists.Facts.{true→T}
 use Rattle.paper.proofs.CharDef.Sound.{zero-one}
 use Rattle.paper.proofs.Text.Code.{low-ok, high-ok, dec-1, dec-2, dec-3, dec-4, bad-good, low-80, high-BF, low-E0, low-F0, high-ED, high-F4}

@@ -13,13 +13,14 @@ use lib.ListN.{length, take, drop, getD, length-append, length-map}
 use lib.Seq.{take-append-seam, drop-append-add, drop-drop}
 use mir.Facts.{and-yes, yes-and, ltb-no, no-ltb, leb-yes, yes-leb}
 use borrow.Author.Tests.{ltb-true, ltb-false, le-ltb, ne-eqb, eq-eqb}
-use Rattle.paper.specs.Numbers.Bytes.{le, value}
 use Rattle.paper.specs.Lists.{empty, all, any, full, joined, cut, push, same, sum, is, without, joinWith}
 use Rattle.paper.specs.Text.Scalar.{WellFormed, LongestPrefix}
-use Rattle.paper.specs.Numbers.Numeral.{Numeral, numeral, Integer, pos, neg, SignedNumeral, signedNumeral, wrap16}
-use Rattle.paper.specs.Text.Decode.{Text, broken, chars, decode}
+use Rattle.paper.specs.Numbers.Bytes.{le, value}
+use Rattle.paper.specs.Numbers.Numeral.{Numeral, Integer, pos, neg, SignedNumeral, wrap16}
 use Rattle.paper.specs.Unk.Entry.{endsCR, Lines, no-line, at-LF, at-CRLF, Entry, UnkLine, stored, offsetsFrom, entriesFrom, Unk, unkOf, EachUnk, done, next, UnkFits, detailsAt}
-use Rattle.paper.specs.Unk.Read.{dropCR, fromPieces, unkLines, UnkFound, entry, no-entry, fromUnkNumbers, fromFields, unkLineOf, Entries, entries-are, stops, consEntry, orFull, enterUnk, readEntries, UnkAnswer, accepted, refused, answerUnk, readUnkText, readUnk}
+use Rattle.paper.specs.Computed.Decode.{Text, broken, chars, decode}
+use Rattle.paper.specs.Computed.Numeral.{numeral, signedNumeral}
+use Rattle.paper.specs.Computed.ReadUnk.{dropCR, fromPieces, unkLines, UnkFound, entry, no-entry, fromUnkNumbers, fromFields, unkLineOf, Entries, entries-are, stops, consEntry, orFull, enterUnk, readEntries, UnkAnswer, accepted, refused, answerUnk, readUnkText, readUnk}
 use Rattle.paper.proofs.Tables.Laws.{value-le}
 use Rattle.paper.proofs.Lists.Facts.{T→true, T→false, true→T, all-append, un, cut-run, pushAll, pushAll-first}
 use Rattle.paper.proofs.CharDef.Sound.{false→T, zero-one, all-left, Pieces, last, then, cut-pieces, numeral-sound}

@@ -1,14 +1,14 @@
--- CharDef.Bad.
+-- The first bad line of a text, "A refused text names its first bad line": the lines before it, and what stands after it.
 -- Assumes nothing.
 use Prim.Native.Nat.{ℕ, zero, suc, _≤_}
 use mathlib.Core.Path.{_≡_}
 use mathlib.Core.List.{List, [], _∷_, _++_}
 use lib.Dec.{T}
 use lib.ListN.{length, take}
-use Rattle.paper.specs.Text.Scalar.{lf}
 use Rattle.paper.specs.Lists.{cut}
-use Rattle.paper.specs.CharDef.Reading.{Reading, Fits, joinLF, noLF, isLF}
-use Rattle.paper.specs.CharDef.Read.{accepted, refused, readText}
+use Rattle.paper.specs.Text.Scalar.{lf}
+use Rattle.paper.specs.CharDef.Reading.{Reading, Fits, joinLF, noLF, isLF, accepted, refused}
+use Rattle.paper.specs.Computed.ReadText.{readText}
 
 -- ---- parts of a text
 

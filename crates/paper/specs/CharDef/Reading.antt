@@ -3,7 +3,7 @@
 use Prim.Native.Nat.{ℕ, _≤_}
 use mathlib.Core.Path.{_≡_}
 use mathlib.Core.Bool.{Bool, not}
-use mathlib.Core.List.{List, [], _∷_, _++_, map}
+use mathlib.Core.List.{List, [], _∷_, map}
 use lib.Dec.{T, eqb}
 use lib.ListN.{length}
 use Rattle.paper.specs.Sizes.{maxTextBytes, maxCategories, maxNameBytes, maxCategoryLines, maxRanges, maxReferences}
@@ -109,3 +109,12 @@ pub record Fits (bytes : List ℕ) (r : Reading) : Type 0 where
 
 abbrev pub isLF : ℕ → Bool
 isLF c = eqb c lf
+
+-- ---- answers
+
+-- ---- the text
+
+pub data Answer : Type 0 where
+  accepted : Reading → Answer
+  -- number and place
+  refused : ℕ → ℕ → Answer

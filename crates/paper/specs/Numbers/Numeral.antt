@@ -1,11 +1,10 @@
--- Numbers.Numeral.
+-- Numbers as Rust's library reads them: an optional sign, digits of a base, a limit; and what unk.def keeps of them in 16 bits.
 -- Assumes nothing.
 use Prim.Native.Nat.{ℕ, _+_, _-_, _*_, _≤_, _%_}
 use mathlib.Core.Path.{_≡_}
-use mathlib.Core.Bool.{Bool, true, false, cond, _&&_}
+use mathlib.Core.Bool.{Bool, true, false, cond}
 use mathlib.Core.List.{List, [], _∷_, _++_}
-use mathlib.Core.Option.{Option, none, some}
-use lib.Dec.{T, leb, ltb, eqb}
+use lib.Dec.{T, ltb, eqb}
 use Rattle.paper.specs.Lists.{full}
 use Rattle.paper.specs.Text.Scalar.{between, plusSign, minusSign}
 
@@ -43,22 +42,6 @@ pub record Numeral (base limit : ℕ) (cs : List ℕ) (n : ℕ) : Type 0 where
   pub value : n ≡ valueAfter base 0 digits
   pub fits : n ≤ limit
 
--- ---- numbers
-
-abbrev pub dropPlus : List ℕ → List ℕ
-dropPlus [] = []
-dropPlus (c ∷ cs) = cond (eqb c plusSign) cs (c ∷ cs)
-
-unfoldable pub spelledBy : ℕ → ℕ → List ℕ → Option ℕ
-unfolding isDigit valueAfter
-spelledBy base limit ds =
-    let n = valueAfter base 0 ds in
-    cond (full (isDigit base) ds && leb n limit) (some n) none
-
-unfoldable pub numeral : ℕ → ℕ → List ℕ → Option ℕ
-unfolding spelledBy
-numeral base limit cs = spelledBy base limit (dropPlus cs)
-
 -- one or more digits of a base, of a value up to a limit
 pub record Spelled (base limit : ℕ) (ds : List ℕ) (n : ℕ) : Type 0 where
   pub digits : T (full (isDigit base) ds)
@@ -82,19 +65,6 @@ pub record Negative (base limit : ℕ) (cs : List ℕ) (n : ℕ) : Type 0 where
 abbrev pub SignedNumeral : ℕ → ℕ → ℕ → List ℕ → Integer → Type 0
 SignedNumeral base top low cs (pos n) = Numeral base top cs n
 SignedNumeral base top low cs (neg n) = Negative base low cs n
-
-abbrev pub asPos : Option ℕ → Option Integer
-asPos none = none
-asPos (some n) = some (pos n)
-
-abbrev pub asNeg : Option ℕ → Option Integer
-asNeg none = none
-asNeg (some n) = some (neg n)
-
-unfoldable pub signedNumeral : ℕ → ℕ → ℕ → List ℕ → Option Integer
-unfolding spelledBy numeral
-signedNumeral base top low [] = none
-signedNumeral base top low (c ∷ cs) = cond (eqb c minusSign) (asNeg (spelledBy base low cs)) (asPos (numeral base top (c ∷ cs)))
 
 -- ---- sixteen bits
 

@@ -1,32 +1,18 @@
--- Pack.Rules.
+-- "The pack", its rules: what a reading keeps so that it has a pack. Refusal 26 is given exactly when tables break one.
 -- Assumes nothing.
 use Prim.Native.Nat.{ℕ, _+_}
-use mathlib.Core.Bool.{Bool, true, false, not, _&&_}
+use mathlib.Core.Bool.{Bool, true, not, _&&_}
 use mathlib.Core.List.{List, [], _∷_}
 use lib.Dec.{T, leb, ltb, eqb}
 use lib.ListN.{length}
-use Rattle.paper.specs.Sizes.{maxCategories, maxNameBytes, maxCategoryLines, maxRanges, maxReferences, maxU16, maxU32}
+use Rattle.paper.specs.Sizes.{maxU16, maxU32}
 use Rattle.paper.specs.Lists.{all, any, same, empty}
-use Rattle.paper.specs.CharDef.Reading.{Definition, Range, Reading, nameBytes, references, Within}
 use Rattle.paper.specs.Text.Scalar.{between, WellFormed}
-use Rattle.paper.specs.Text.Decode.{Text, broken, chars, decode}
-
--- ---- rows
+use Rattle.paper.specs.CharDef.Reading.{Definition, Range, Reading, Within}
 
 -- every category number is known
 unfoldable pub numbered : Reading → Bool
 numbered r = all (λ g. all (λ c. ltb c (length (r .names))) (g .categories)) (r .ranges)
-
--- ---- the tests
-
-abbrev pub isText : Text → Bool
-isText (broken at) = false
-isText (chars cs) = true
-
--- well-formed UTF-8
-unfoldable pub formed : List ℕ → Bool
-unfolding decode
-formed s = isText (decode s)
 
 abbrev pub hasBytes : List ℕ → Bool
 hasBytes n = not (empty n)
@@ -51,35 +37,6 @@ bounded g = isBound (g .lower) && isBound (g .upper)
 -- a definition's length has 32 bits
 abbrev pub sized : Definition → Bool
 sized d = ltb (d .len) (maxU32 + 1)
-
--- all of these
-abbrev pub every : List Bool → Bool
-every [] = true
-every (b ∷ bs) = b && every bs
-
-unfoldable pub within : Reading → Bool
-within r =
-    every
-    (leb (length (r .names)) maxCategories
-    ∷ leb (nameBytes (r .names)) maxNameBytes
-    ∷ leb (length (r .definitions)) maxCategoryLines
-    ∷ leb (length (r .ranges)) maxRanges
-    ∷ leb (references (r .ranges)) maxReferences
-    ∷ [])
-
--- a reading keeps every rule of a pack
-unfoldable pub keepsRules : Reading → Bool
-unfolding within formed bounded numbered
-keepsRules r =
-    every
-    (within r
-    ∷ all hasBytes (r .names)
-    ∷ all formed (r .names)
-    ∷ once (r .names)
-    ∷ all sized (r .definitions)
-    ∷ all bounded (r .ranges)
-    ∷ numbered r
-    ∷ [])
 
 -- ---- the rules
 

@@ -1,4 +1,4 @@
--- Rows.Flat.
+-- "A flat entry is offset times 256 plus length": the row of a code point among rows, flat entries and their parts.
 -- Assumes nothing.
 use Prim.Native.Nat.{ℕ, suc, _+_, _*_, _/_, _%_}
 use mathlib.Core.Bool.{Bool, cond}

@@ -1,8 +1,7 @@
 -- A reading's tables as bytes, DESIGN.md section 6: entries one behind another, numbers with the least byte first; "names and references
 -- stand in their stores one behind another from 0, in order".
 -- Assumes nothing.
-use Prim.Native.Nat.{ℕ, zero, suc, _+_, _*_, _-_}
-use mathlib.Core.Bool.{Bool, true, false}
+use Prim.Native.Nat.{ℕ, zero, suc, _+_, _*_}
 use mathlib.Core.List.{List, [], _∷_, _++_, map}
 use lib.Dec.{eqb}
 use lib.ListN.{length, take, drop, getD}

@@ -97,6 +97,6 @@ isSep c = eqb c 0x09 || eqb c 0x0C || eqb c 0x0D || eqb c 0x20
 
 -- p bytes are well-formed, and no more
 pub record LongestPrefix (p : ℕ) (bytes : List ℕ) : Type 0 where
-  pub inside : p < length bytes
+  pub inside : p ≤ length bytes
   pub fits : WellFormed (take p bytes)
   pub longest : (n : ℕ) → n ≤ length bytes → WellFormed (take n bytes) → n ≤ p

@@ -1,15 +1,15 @@
--- unk.def: its lines, what a line says, and the answer to a text, computed and as a relation.
+-- "unk.def": its lines, what a line says, what entries say, and which texts fit.
 -- Assumes nothing.
-use Prim.Native.Nat.{ℕ, suc, _+_, _*_, _/_, _%_, _≤_}
+use Prim.Native.Nat.{ℕ, suc, _+_, _%_, _≤_}
 use mathlib.Core.Path.{_≡_}
 use mathlib.Core.Bool.{Bool, false, not, cond}
 use mathlib.Core.List.{List, [], _∷_, _++_, map}
 use lib.Dec.{T}
 use lib.ListN.{length, take, drop}
-use Rattle.paper.specs.Numbers.Bytes.{le, value}
 use Rattle.paper.specs.Sizes.{maxTextBytes, maxUnkEntries, maxU32, maxI32, lowI32}
 use Rattle.paper.specs.Lists.{empty, all, joined, same, is, without, joinWith}
 use Rattle.paper.specs.Text.Scalar.{utf8, isScalar, lf, cr, comma}
+use Rattle.paper.specs.Numbers.Bytes.{le, value}
 use Rattle.paper.specs.Numbers.Numeral.{Numeral, Integer, SignedNumeral, wrap16}
 
 abbrev pub endsCR : List ℕ → Bool

@@ -18,13 +18,13 @@ use mathlib.Core.Bool.{Bool, true, not, cond, _&&_}
 use mathlib.Core.List.{List, [], _∷_, map}
 use lib.Dec.{leb, ltb, eqb}
 use lib.ListN.{length}
-use Rattle.paper.specs.Refusals.{packVersion, packEnds, packRule, packLeftOver}
 use Rattle.paper.specs.Sizes.{maxCategories, maxNameBytes, maxCategoryLines, maxRanges, maxReferences}
+use Rattle.paper.specs.Refusals.{packVersion, packEnds, packRule, packLeftOver}
 use Rattle.paper.specs.Lists.{all, any, joined, same}
-use Rattle.paper.specs.CharDef.Reading.{Definition, Range, Reading, references}
-use Rattle.paper.specs.CharDef.Read.{Answer, accepted, refused}
+use Rattle.paper.specs.CharDef.Reading.{Definition, Range, Reading, references, Answer, accepted, refused}
 use Rattle.paper.specs.Pack.Fields.{bits, version, versionWidth, categoriesWidth, linesWidth, rangesWidth, referencesWidth, nameLengthWidth, byteWidth, flagWidth, lengthWidth, boundWidth, countWidth, numberWidth}
-use Rattle.paper.specs.Pack.Rules.{formed, isBound}
+use Rattle.paper.specs.Pack.Rules.{isBound}
+use Rattle.paper.specs.Computed.Rules.{formed}
 
 infixr 20 _▹_
 -- the bits of bytes, in order

@@ -1,4 +1,4 @@
--- Text.Decode.
+-- The characters of bytes, computed: decoded, or where the longest well-formed prefix ends. `Text.Prefix` proves it the ABNF.
 -- Assumes nothing.
 use Prim.Native.Nat.{ℕ, zero, suc, _+_, _*_, _%_}
 use mathlib.Core.Bool.{Bool, cond, _&&_}

@@ -7,14 +7,14 @@ use mathlib.Core.Option.{Option, none, some}
 use mathlib.Core.List.{List, [], _∷_, _++_, map}
 use lib.Dec.{leb, ltb, eqb}
 use lib.ListN.{length}
-use Rattle.paper.specs.Refusals.{textLong, textIllFormed, rangeParts, boundUnreadable, boundMark, categoryFields, categoryNumber, rangesFull, referencesFull, categoryLinesFull, categoriesFull, nameBytesFull}
 use Rattle.paper.specs.Sizes.{maxTextBytes, maxCategories, maxNameBytes, maxCategoryLines, maxRanges, maxReferences, maxU16, maxU32}
+use Rattle.paper.specs.Refusals.{textLong, textIllFormed, rangeParts, boundUnreadable, boundMark, categoryFields, categoryNumber, rangesFull, referencesFull, categoryLinesFull, categoriesFull, nameBytesFull}
 use Rattle.paper.specs.Lists.{any, cut, push, words, until, trimStart, trimEnd, same, positionOf}
 use Rattle.paper.specs.Text.Scalar.{isWhite, isSep, utf8, dot, digit0, letterX}
 use Rattle.paper.specs.CharDef.Line.{Line, blank, category, range, begins0x, isHash, standsFor}
-use Rattle.paper.specs.CharDef.Reading.{Definition, Reading, nameBytes, references, isLF}
-use Rattle.paper.specs.Text.Decode.{Text, broken, chars, decode}
-use Rattle.paper.specs.Numbers.Numeral.{numeral}
+use Rattle.paper.specs.CharDef.Reading.{Answer, accepted, refused, Definition, Reading, nameBytes, references, isLF}
+use Rattle.paper.specs.Computed.Decode.{Text, broken, chars, decode}
+use Rattle.paper.specs.Computed.Numeral.{numeral}
 
 -- ---- a line
 
@@ -153,13 +153,6 @@ enterFound r (found l) = enter r l
 unfoldable pub verdict : Reading → List ℕ → Step
 unfolding lineOf enter
 verdict r cs = enterFound r (lineOf cs)
-
--- ---- the text
-
-pub data Answer : Type 0 where
-  accepted : Reading → Answer
-  -- number and place
-  refused : ℕ → ℕ → Answer
 
 abbrev pub afterLine : ℕ → Step → (Reading → Answer) → Answer
 afterLine k (stop n) go = refused n k

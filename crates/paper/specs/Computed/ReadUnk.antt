@@ -1,4 +1,4 @@
--- Unk.Read.
+-- The answer to an unk.def, computed. `Unk.Law` proves it the relation `UnkFits`.
 -- Assumes nothing.
 use Prim.Native.Nat.{ℕ, suc, _%_}
 use mathlib.Core.Bool.{Bool, true, false, cond}
@@ -6,13 +6,14 @@ use mathlib.Core.Option.{Option, none, some}
 use mathlib.Core.List.{List, [], _∷_}
 use lib.Dec.{ltb}
 use lib.ListN.{length}
-use Rattle.paper.specs.Text.Scalar.{lf, cr, comma}
-use Rattle.paper.specs.Refusals.{textLong, textIllFormed, unkFields, unkNumber, unkEntriesFull}
 use Rattle.paper.specs.Sizes.{maxTextBytes, maxUnkEntries, maxU32, maxI32, lowI32}
+use Rattle.paper.specs.Refusals.{textLong, textIllFormed, unkFields, unkNumber, unkEntriesFull}
 use Rattle.paper.specs.Lists.{empty, cut, is, joinWith}
-use Rattle.paper.specs.Text.Decode.{Text, broken, chars, decode}
-use Rattle.paper.specs.Numbers.Numeral.{numeral, Integer, signedNumeral, wrap16}
+use Rattle.paper.specs.Text.Scalar.{lf, cr, comma}
+use Rattle.paper.specs.Numbers.Numeral.{Integer, wrap16}
 use Rattle.paper.specs.Unk.Entry.{Entry, Unk, unkOf}
+use Rattle.paper.specs.Computed.Decode.{Text, broken, chars, decode}
+use Rattle.paper.specs.Computed.Numeral.{numeral, signedNumeral}
 
 -- one CR at the end is dropped
 abbrev pub dropCR : List ℕ → List ℕ
