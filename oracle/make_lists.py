@@ -153,7 +153,8 @@ def cuts(encoded):
 
 def utf8_texts():
     texts = [b""] + [bytes.fromhex(example) for example in RFC_EXAMPLES]
-    texts += [bytes.fromhex(before + bad + behind) for bad in ILL_FORMED for before, behind in AROUND]
+    texts += [bytes.fromhex(before + bad + behind)
+              for bad in ILL_FORMED for before, behind in AROUND]
     whole = [chr(code).encode() for code in EDGES] + lead_ends()
     for encoded in whole:
         texts += [encoded, b"\xc3\xa9" + encoded + b"A"] + cuts(encoded)
