@@ -1,7 +1,8 @@
 // Fixed lists that the try_ programs replay: fields between spaces, lines between LFs, numbers and bytes in hex.
 // Every function takes any bytes and any place; what a list does not have is read as 0 or as nothing.
-ghost use Prim.Native.Nat.{ℕ, _≤_, _<_};
+ghost use Prim.Native.Nat.{_<_};
 ghost use lib.ListN.{length};
+ghost use Rattle.io.specs.Counts.{Counts};
 ghost use Rattle.replay.specs.Field.{FieldIn};
 
 // Larger than every number of a list; what would pass it stays.
@@ -107,7 +108,7 @@ pub fn number_of(list: &[u8], start: usize, end: usize, hex: bool) -> u64 {
 
 // The bytes that pairs of hex digits from start up to end spell, put into room; how many there are.
 pub fn bytes_of(list: &[u8], start: usize, end: usize, room: &mut [u8]) -> usize
-    ensures { λ r. ⌜ r ≤ length (now (room .exit)) ⌝ }
+    ensures { λ r. ⌜ Counts r (now (room .exit)) ⌝ }
 {
     let mut n = 0;
     let mut at = start;

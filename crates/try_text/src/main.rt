@@ -6,7 +6,9 @@ use text::Next;
 
 // A text of the list has fewer bytes than this.
 const LONGEST: usize = 256;
+
 const TAIL: u8 = 0x80;
+
 const NO_TAIL: u8 = 0x41;
 
 // How many cases agreed and differed so far, and the first code point whose White_Space was not asked yet.
