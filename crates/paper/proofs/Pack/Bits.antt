@@ -8,20 +8,17 @@ use mathlib.Core.Bool.{Bool, true}
 use mathlib.Core.List.{List, [], _∷_, _++_, map, append-assoc}
 use lib.Dec.{T, ltb, eqb, eqb→eq}
 use lib.ListN.{length}
+use lib.Pow.{pow-add}
 use mir.Facts.{and-yes, yes-and, ltb-yes, yes-ltb}
-use Rattle.paper.specs.Lists.{all, joined}
+use Rattle.paper.specs.Lists.{all}
 use Rattle.paper.specs.Numbers.Bytes.{isByte}
-use Rattle.paper.specs.Pack.Fields.{Field, field, bits, fieldBits, byte, inBytes}
+use Rattle.paper.specs.Pack.Fields.{byteWidth, Field, field, bits, fieldBits, spell, bytesOf, byte, inBytes}
 use Rattle.paper.specs.Computed.ReadPack.{unpackBits, Taken, short, taken, takeNumber, consTaken, afterByte, takeBytes, isPadding}
 use Rattle.paper.proofs.Lists.Facts.{all-append}
 use Rattle.paper.proofs.CharDef.Sound.{zero-one, all-left, all-right}
 
 abbrev pub isBit : ℕ → Bool
 isBit b = ltb b 2
-
--- the bits of fields
-abbrev pub spell : List Field → List ℕ
-spell fs = joined (map fieldBits fs)
 
 pub spell-append : (fs gs : List Field) → spell (fs ++ gs) ≡ spell fs ++ spell gs
 spell-append [] gs = refl
@@ -237,3 +234,49 @@ inBytes-pad (a ∷ b ∷ c ∷ d ∷ e ∷ f ∷ g ∷ i ∷ s) pad t h = ap (λ
 pub unpack-length : (p : List ℕ) → length (unpackBits p) % 8 ≡ 0
 unpack-length [] = refl
 unpack-length (b ∷ p) = let h = unpack-length p in omega arith
+
+-- ---- bytes as one field
+
+bits-add : (a b v : ℕ) → bits (a + b) v ≡ bits a (v / 2 ^ b) ++ bits b v
+bits-add zero b v = let e : 0 + b ≡ b = omega arith in ap (λ w. bits w v) e
+bits-add (suc a) b v =
+    let e : suc a + b ≡ suc (a + b) = omega arith in
+    let d : v / 2 ^ (a + b) ≡ v / 2 ^ b / 2 ^ a =
+    ap (λ w. v / 2 ^ w) (let c : a + b ≡ b + a = omega arith in c) ∙ ap (λ m. v / m) (pow-add 2 b a) ∙ sym (div-div-eq-div-mul v (2 ^ b) (2 ^ a)) in
+    ap (λ w. bits w v) e ∙ ap₂ (λ q l. q % 2 ∷ l) d (bits-add a b v)
+
+byte-bits : (q : ℕ) → bits byteWidth (q % 2 ^ byteWidth) ≡ bits byteWidth q
+byte-bits q =
+    ap₂ (λ x l. x ∷ l) (omega arith)
+    (ap₂ (λ x l. x ∷ l) (omega arith)
+    (ap₂ (λ x l. x ∷ l) (omega arith)
+    (ap₂ (λ x l. x ∷ l) (omega arith)
+    (ap₂ (λ x l. x ∷ l) (omega arith)
+    (ap₂ (λ x l. x ∷ l) (omega arith)
+    (ap₂ (λ x l. x ∷ l) (omega arith)
+    (ap (λ x. x ∷ []) (omega arith))))))))
+
+pub bytesOf-bits : (n v : ℕ) → bits (byteWidth * n) v ≡ spell (map (field byteWidth) (bytesOf n v))
+bytesOf-bits zero v = refl
+bytesOf-bits (suc n) v =
+    let e : byteWidth * suc n ≡ byteWidth + byteWidth * n = omega arith in
+    ap (λ w. bits w v) e ∙ bits-add byteWidth (byteWidth * n) v
+    ∙ ap₂ (λ k l. k ++ l) (sym (byte-bits (v / 2 ^ (byteWidth * n)))) (bytesOf-bits n v)
+
+pub bytesOf-length : (n v : ℕ) → length (bytesOf n v) ≡ n
+bytesOf-length zero v = refl
+bytesOf-length (suc n) v = ap suc (bytesOf-length n v)
+
+pub bytesOf-bytes : (n v : ℕ) → T (all isByte (bytesOf n v))
+bytesOf-bytes zero v = tt
+bytesOf-bytes (suc n) v =
+    yes-and (isByte (v / 2 ^ (byteWidth * n) % 2 ^ byteWidth)) (all isByte (bytesOf n v)) (yes-ltb (small (v / 2 ^ (byteWidth * n)))) (bytesOf-bytes n v)
+  where
+    small : (q : ℕ) → q % 2 ^ byteWidth < 256
+    small q = omega arith
+
+-- w bits say a number exactly where there are so many
+pub number-short : (w high : ℕ) (s : List ℕ) → takeNumber w high s ≡ short → length s < w
+number-short zero high s h = short-taken (sym h)
+number-short (suc w) high [] h = omega arith
+number-short (suc w) high (x ∷ s) h = let k = number-short w (high * 2 + x) s h in omega arith

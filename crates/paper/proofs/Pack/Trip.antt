@@ -15,7 +15,7 @@ use Rattle.paper.specs.Lists.{all, any, joined, same}
 use Rattle.paper.specs.Text.Scalar.{In, WellFormed, nothing, utf8-1, utf8-2, utf8-3-E0, utf8-3-E1, utf8-3-ED, utf8-3-EE, utf8-4-F0, utf8-4-F1, utf8-4-F4}
 use Rattle.paper.specs.Numbers.Bytes.{isByte}
 use Rattle.paper.specs.CharDef.Reading.{Definition, Range, Reading, nameBytes, references, Within, accepted}
-use Rattle.paper.specs.Pack.Fields.{Field, flag, field, nameFields, definitionFields, rangeFields, packFields, bits, packBits, inBytes, packBytes}
+use Rattle.paper.specs.Pack.Fields.{Field, flag, field, nameFields, definitionFields, rangeFields, packFields, bits, spell, packBits, inBytes, packBytes}
 use Rattle.paper.specs.Pack.Rules.{numbered, hasBytes, onceAfter, isBound, bounded, sized, PackRules}
 use Rattle.paper.specs.Computed.ReadPack.{unpackBits, Taken, short, taken, takeNumber, takeBytes, Outcome, gave, broke, Reader, afterOutcome, _▹_, give, settle, fieldOr, number, free, bytesField, demand, isPadding, padding, many, lengthRule, nameRule, readName, readNames, readDefinition, countRule, readRange, readRanges, upTo, readBody, readCounted, readFields, readAll, answer, readPack}
 use Rattle.paper.specs.Computed.Rules.{formed}
@@ -24,7 +24,7 @@ use Rattle.paper.proofs.CharDef.Sound.{zero-one}
 use Rattle.paper.proofs.Pack.Size.{bits-length, fields-length, width-map, pack-length}
 use Rattle.paper.proofs.CharDef.Whole.{refused-accepted}
 use Rattle.paper.proofs.Pack.Rules.{formed-is, is-formed, each-all, all-each}
-use Rattle.paper.proofs.Pack.Bits.{isBit, spell, spell-append, spell-bits, unpack-bits, number-taken, taken-number, bytes-taken, taken-bytes, inBytes-unpack, unpack-inBytes, inBytes-pad, inBytes-bytes, unpack-length}
+use Rattle.paper.proofs.Pack.Bits.{isBit, spell-append, spell-bits, unpack-bits, number-taken, taken-number, bytes-taken, taken-bytes, inBytes-unpack, unpack-inBytes, inBytes-pad, inBytes-bytes, unpack-length}
 
 -- ---- a reader reads a value from its bits, whatever follows
 
@@ -654,7 +654,7 @@ padding-of : (at : ℕ) (s : List ℕ) → T (isPadding s) → padding at s ≡ 
 unfolding padding
 padding-of at s t = ap (λ b. cond b (gave tt at []) (broke 21 at)) (T→true (isPadding s) t)
 
-padding-is : (at : ℕ) (s : List ℕ) (v : Unit {0}) (to : ℕ) (t : List ℕ) → padding at s ≡ gave v to t → T (isPadding s)
+pub padding-is : (at : ℕ) (s : List ℕ) (v : Unit {0}) (to : ℕ) (t : List ℕ) → padding at s ≡ gave v to t → T (isPadding s)
 unfolding padding
 padding-is at s v to t h = go (isPadding s) refl h
   where
@@ -694,7 +694,7 @@ all-read p r to t e =
     let f = fields-read 0 (unpackBits p) r (x .place) (x .rest) (unpack-bits p) (x .first ∙ ap (λ v. gave v (x .place) (x .rest)) er) in
     record { rules = f .rules; pad = x .rest; zero-bits = padding-is (x .place) (x .rest) (y .value) (y .place) (y .rest) (y .first); whole = f .whole }
 
-answered : (o : Outcome Reading) (r : Reading) → answer o ≡ accepted r → (to : ℕ) × (t : List ℕ) × (o ≡ gave r to t)
+pub answered : (o : Outcome Reading) (r : Reading) → answer o ≡ accepted r → (to : ℕ) × (t : List ℕ) × (o ≡ gave r to t)
 answered (broke n at) r h = refused-accepted h
 answered (gave q to t) r h = let e : q ≡ r = cc in (to, t, ap (λ v. gave v to t) e)
 

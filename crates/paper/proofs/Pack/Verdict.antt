@@ -32,10 +32,10 @@ pub record Orderly {A : Type 0} (S : ℕ → Bool) (p : Reader A) : Type 0 where
   pub goes : (at : ℕ) (s : List ℕ) (a : A) (to : ℕ) (t : List ℕ) → p at s ≡ gave a to t → (u : List ℕ) → p at (s ++ u) ≡ gave a to (t ++ u)
   pub stops : (at : ℕ) (s : List ℕ) (n m : ℕ) → p at s ≡ broke n m → n ≢ 19 → (u : List ℕ) → p at (s ++ u) ≡ broke n m
 
-got-broke {ℓ} : {X : Type ℓ} {A : Type 0} {n at to : ℕ} {a : A} {t : List ℕ} → gave a to t ≡ broke n at → X
+pub got-broke {ℓ} : {X : Type ℓ} {A : Type 0} {n at to : ℕ} {a : A} {t : List ℕ} → gave a to t ≡ broke n at → X
 got-broke e = zero-one (cc)
 
-broke-same : {A : Type 0} (i j n m : ℕ) → _≡_ {A = Outcome A} (broke i j) (broke n m) → (i ≡ n) × (j ≡ m)
+pub broke-same : {A : Type 0} (i j n m : ℕ) → _≡_ {A = Outcome A} (broke i j) (broke n m) → (i ≡ n) × (j ≡ m)
 broke-same i j n m h = let e : i ≡ n = cc in let d : j ≡ m = cc in (e, d)
 
 orderly-bind : {A B : Type 0} (S : ℕ → Bool) (p : Reader A) (k : A → Reader B) → Orderly S p → ((a : A) → Orderly S (k a)) → Orderly S (p ▹ k)
@@ -89,7 +89,7 @@ orderly-give {A} S a =
 
 -- ---- fields
 
-settle-got : {A : Type 0} (n w at : ℕ) (ok : A → Bool) (o : Taken A) (a : A) (to : ℕ) (t : List ℕ) → settle n w at ok o ≡ gave a to t
+pub settle-got : {A : Type 0} (n w at : ℕ) (ok : A → Bool) (o : Taken A) (a : A) (to : ℕ) (t : List ℕ) → settle n w at ok o ≡ gave a to t
     → (o ≡ taken a t) × (ok a ≡ true) × (at + w ≡ to)
 unfolding settle
 settle-got n w at ok short a to t h = broke-got h
@@ -104,14 +104,14 @@ settle-got n w at ok (taken x v) a to t h = go (ok x) refl h
     go false e h = broke-got h
 
 -- too short, or the test fails
-settle-broke : {A : Type 0} (n w at : ℕ) (ok : A → Bool) (o : Taken A) (k m : ℕ) → settle n w at ok o ≡ broke k m
-    → (at ≡ m) × ((19 ≡ k) ⊎ ((a : A) × (t : List ℕ) × (o ≡ taken a t) × (ok a ≡ false) × (n ≡ k)))
+pub settle-broke : {A : Type 0} (n w at : ℕ) (ok : A → Bool) (o : Taken A) (k m : ℕ) → settle n w at ok o ≡ broke k m
+    → (at ≡ m) × (((o ≡ short) × (19 ≡ k)) ⊎ ((a : A) × (t : List ℕ) × (o ≡ taken a t) × (ok a ≡ false) × (n ≡ k)))
 unfolding settle
-settle-broke n w at ok short k m h = let ek : 19 ≡ k = cc in let em : at ≡ m = cc in (em, inl ek)
+settle-broke n w at ok short k m h = let ek : 19 ≡ k = cc in let em : at ≡ m = cc in (em, inl (refl, ek))
 settle-broke {A} n w at ok (taken x v) k m h = go (ok x) refl h
   where
     go : (c : Bool) → ok x ≡ c → cond c (gave x (at + w) v) (broke n at) ≡ broke k m
-        → (at ≡ m) × ((19 ≡ k) ⊎ ((a : A) × (t : List ℕ) × (taken x v ≡ taken a t) × (ok a ≡ false) × (n ≡ k)))
+        → (at ≡ m) × (((taken x v ≡ short) × (19 ≡ k)) ⊎ ((a : A) × (t : List ℕ) × (taken x v ≡ taken a t) × (ok a ≡ false) × (n ≡ k)))
     go true e h = got-broke h
     go false e h = let ek : n ≡ k = cc in let em : at ≡ m = cc in (em, inr (x, v, refl, e, ek))
 
@@ -134,8 +134,8 @@ module _ {A : Type 0} (S : ℕ → Bool) (n w : ℕ) (ok : A → Bool) (take : L
           let (e, o) = settle-broke n w at ok (take s) k m h in
           (which o, omega arith, omega arith)
         where
-          which : (19 ≡ k) ⊎ ((a : A) × (t : List ℕ) × (take s ≡ taken a t) × (ok a ≡ false) × (n ≡ k)) → T (S k)
-          which (inl e) = subst (λ k. T (S k)) e ends
+          which : ((take s ≡ short) × (19 ≡ k)) ⊎ ((a : A) × (t : List ℕ) × (take s ≡ taken a t) × (ok a ≡ false) × (n ≡ k)) → T (S k)
+          which (inl (z, e)) = subst (λ k. T (S k)) e ends
           which (inr (a, t, o, c, e)) = subst (λ k. T (S k)) e own
 
       goes : (at : ℕ) (s : List ℕ) (a : A) (to : ℕ) (t : List ℕ) → settle n w at ok (take s) ≡ gave a to t → (u : List ℕ) → settle n w at ok (take (s ++ u)) ≡ gave a to (t ++ u)
@@ -146,12 +146,12 @@ module _ {A : Type 0} (S : ℕ → Bool) (n w : ℕ) (ok : A → Bool) (take : L
       stops : (at : ℕ) (s : List ℕ) (k m : ℕ) → settle n w at ok (take s) ≡ broke k m → k ≢ 19 → (u : List ℕ) → settle n w at ok (take (s ++ u)) ≡ broke k m
       stops at s k m h d u = let (e, o) = settle-broke n w at ok (take s) k m h in which e o
         where
-          which : at ≡ m → (19 ≡ k) ⊎ ((a : A) × (t : List ℕ) × (take s ≡ taken a t) × (ok a ≡ false) × (n ≡ k)) → settle n w at ok (take (s ++ u)) ≡ broke k m
-          which em (inl e) = absurd (d (sym e))
+          which : at ≡ m → ((take s ≡ short) × (19 ≡ k)) ⊎ ((a : A) × (t : List ℕ) × (take s ≡ taken a t) × (ok a ≡ false) × (n ≡ k)) → settle n w at ok (take (s ++ u)) ≡ broke k m
+          which em (inl (z, e)) = absurd (d (sym e))
           which em (inr (a, t, o, c, e)) =
               ap (settle n w at ok) (more s a t o u) ∙ ap (λ b. cond b (gave a (at + w) (t ++ u)) (broke n at)) c ∙ ap₂ broke e em
 
-number-size : (w high : ℕ) (s : List ℕ) (v : ℕ) (t : List ℕ) → takeNumber w high s ≡ taken v t → length s ≡ w + length t
+pub number-size : (w high : ℕ) (s : List ℕ) (v : ℕ) (t : List ℕ) → takeNumber w high s ≡ taken v t → length s ≡ w + length t
 number-size zero high s v t h = let e : s ≡ t = cc in let l : length s ≡ length t = ap length e in omega arith
 number-size (suc w) high [] v t h = short-taken h
 number-size (suc w) high (x ∷ s) v t h = let k = number-size w (high * 2 + x) s v t h in omega arith
@@ -183,7 +183,7 @@ byte-split n s bs t h = go (takeNumber 8 0 s) refl h
             let et : v ≡ t = cc in
             record { first = x; rest = cs; left = u; one = e; others = d ∙ ap (taken cs) et; whole = eb }
 
-bytes-size : (n : ℕ) (s bs t : List ℕ) → takeBytes n s ≡ taken bs t → length s ≡ 8 * n + length t
+pub bytes-size : (n : ℕ) (s bs t : List ℕ) → takeBytes n s ≡ taken bs t → length s ≡ 8 * n + length t
 bytes-size zero s bs t h = let e : s ≡ t = cc in let l : length s ≡ length t = ap length e in omega arith
 bytes-size (suc n) s bs t h =
     let b = byte-split n s bs t h in
@@ -334,29 +334,29 @@ padding-broke at s n m h = go (isPadding s) refl h
     go false e h = let en : 21 ≡ n = cc in let em : at ≡ m = cc in (e, en, em)
 
 -- a field is broken, or they all are read and what is left is no padding
-Broken : List ℕ → ℕ → ℕ → Type 0
-Broken s n at =
+unfoldable pub Stopped : List ℕ → ℕ → ℕ → Type 0
+Stopped s n at =
     (readFields 0 s ≡ broke n at) ⊎ ((r : Reading) × (t : List ℕ) × (readFields 0 s ≡ gave r at t) × (isPadding t ≡ false) × (21 ≡ n))
 
-all-broken : (s : List ℕ) (n at : ℕ) → readAll 0 s ≡ broke n at → Broken s n at
-unfolding readAll _▹_ give Broken
-all-broken s n at h = go (readFields 0 s) refl h
+all-stopped : (s : List ℕ) (n at : ℕ) → readAll 0 s ≡ broke n at → Stopped s n at
+unfolding readAll _▹_ give Stopped
+all-stopped s n at h = go (readFields 0 s) refl h
   where
-    pad : (r : Reading) (m : ℕ) (t : List ℕ) → readFields 0 s ≡ gave r m t → (o : Outcome (Unit {0})) → padding m t ≡ o → afterOutcome o (λ end. give r) ≡ broke n at → Broken s n at
+    pad : (r : Reading) (m : ℕ) (t : List ℕ) → readFields 0 s ≡ gave r m t → (o : Outcome (Unit {0})) → padding m t ≡ o → afterOutcome o (λ end. give r) ≡ broke n at → Stopped s n at
     pad r m t e (gave u to v) d h = got-broke h
     pad r m t e (broke i j) d h =
         let (ei, ej) = broke-same i j n at h in
         let (c, en, em) = padding-broke m t i j d in
         inr (r, t, e ∙ ap (λ m. gave r m t) (em ∙ ej), c, en ∙ ei)
 
-    go : (o : Outcome Reading) → readFields 0 s ≡ o → afterOutcome o (λ r. padding ▹ (λ end. give r)) ≡ broke n at → Broken s n at
+    go : (o : Outcome Reading) → readFields 0 s ≡ o → afterOutcome o (λ r. padding ▹ (λ end. give r)) ≡ broke n at → Stopped s n at
     go (broke i j) e h = inl (e ∙ h)
     go (gave r m t) e h = pad r m t e (padding m t) refl h
 
-broken-all : (s : List ℕ) (n at : ℕ) → Broken s n at → readAll 0 s ≡ broke n at
-unfolding readAll _▹_ give Broken padding
-broken-all s n at (inl e) = ap (λ o. afterOutcome o (λ r. padding ▹ (λ end. give r))) e
-broken-all s n at (inr (r, t, e, c, en)) =
+stopped-all : (s : List ℕ) (n at : ℕ) → Stopped s n at → readAll 0 s ≡ broke n at
+unfolding readAll _▹_ give Stopped padding
+stopped-all s n at (inl e) = ap (λ o. afterOutcome o (λ r. padding ▹ (λ end. give r))) e
+stopped-all s n at (inr (r, t, e, c, en)) =
     ap (λ o. afterOutcome o (λ r. padding ▹ (λ end. give r))) e
     ∙ ap (λ b. afterOutcome (cond b (gave tt at []) (broke 21 at)) (λ end. give r)) c
     ∙ ap (λ n. broke n at) en
@@ -365,13 +365,13 @@ answer-refused : (o : Outcome Reading) (n at : ℕ) → answer o ≡ refused n a
 answer-refused (gave r to t) n at h = refused-accepted (sym h)
 answer-refused (broke i j) n at h = let e : i ≡ n = cc in let d : j ≡ at = cc in cc
 
-broken-of : (p : List ℕ) (n at : ℕ) → readPack p ≡ refused n at → Broken (unpackBits p) n at
+pub stopped-of : (p : List ℕ) (n at : ℕ) → readPack p ≡ refused n at → Stopped (unpackBits p) n at
 unfolding readPack
-broken-of p n at h = all-broken (unpackBits p) n at (answer-refused (readAll 0 (unpackBits p)) n at h)
+stopped-of p n at h = all-stopped (unpackBits p) n at (answer-refused (readAll 0 (unpackBits p)) n at h)
 
-of-broken : (p : List ℕ) (n at : ℕ) → Broken (unpackBits p) n at → readPack p ≡ refused n at
+of-stopped : (p : List ℕ) (n at : ℕ) → Stopped (unpackBits p) n at → readPack p ≡ refused n at
 unfolding readPack
-of-broken p n at h = ap answer (broken-all (unpackBits p) n at h)
+of-stopped p n at h = ap answer (stopped-all (unpackBits p) n at h)
 
 -- ---- the verdicts
 
@@ -389,14 +389,14 @@ unpack-size (b ∷ p) = let h = unpack-size p in omega arith
 
 -- the numbers are 18 to 21, and the place is in the pack or at its end
 pub refused-numbers : (p : List ℕ) (n at : ℕ) → readPack p ≡ refused n at → T (early n || eqb n 21) × (at ≤ 8 * length p)
-unfolding Broken
-refused-numbers p n at h = go (broken-of p n at h)
+unfolding Stopped
+refused-numbers p n at h = go (stopped-of p n at h)
   where
     left : (a b : Bool) → T a → T (a || b)
     left true b t = tt
     left false b t = absurd t
 
-    go : Broken (unpackBits p) n at → T (early n || eqb n 21) × (at ≤ 8 * length p)
+    go : Stopped (unpackBits p) n at → T (early n || eqb n 21) × (at ≤ 8 * length p)
     go (inl e) =
         let (t, i, j) = orderly-fields .breaks 0 (unpackBits p) n at e in
         let k = unpack-size p in
@@ -408,8 +408,8 @@ refused-numbers p n at h = go (broken-of p n at h)
 
 -- 18 exactly when there is a first byte and it is not 1
 pub refused-18 : (p : List ℕ) (at : ℕ) → T (all isByte p) → (readPack p ≡ refused 18 at) ↔ ((at ≡ 0) × (b : ℕ) × (q : List ℕ) × (p ≡ b ∷ q) × (b ≢ 1))
-unfolding Broken readFields _▹_ fieldOr
-refused-18 p at bytes = (λ h. only (broken-of p 18 at h), λ (e, b, q, ep, d). given e b q ep d)
+unfolding Stopped readFields _▹_ fieldOr
+refused-18 p at bytes = (λ h. only (stopped-of p 18 at h), λ (e, b, q, ep, d). given e b q ep d)
   where
     first : (b : ℕ) (q : List ℕ) → T (all isByte (b ∷ q)) → takeNumber 8 0 (unpackBits (b ∷ q)) ≡ taken b (unpackBits q)
     first b q t = number-taken 8 b (unpackBits q) (ltb-yes (and-yes (isByte b) (all isByte q) t .0))
@@ -424,15 +424,15 @@ refused-18 p at bytes = (λ h. only (broken-of p 18 at h), λ (e, b, q, ep, d). 
     field : (m : ℕ) → settle 18 8 0 (eqb 1) (takeNumber 8 0 (unpackBits p)) ≡ broke 18 m → (m ≡ 0) × (b : ℕ) × (q : List ℕ) × (p ≡ b ∷ q) × (b ≢ 1)
     field m h = let (e, o) = settle-broke 18 8 0 (eqb 1) (takeNumber 8 0 (unpackBits p)) 18 m h in which e o
       where
-        which : 0 ≡ m → (_≡_ {A = ℕ} 19 18) ⊎ ((a : ℕ) × (t : List ℕ) × (takeNumber 8 0 (unpackBits p) ≡ taken a t) × (eqb 1 a ≡ false) × (_≡_ {A = ℕ} 18 18)) → (m ≡ 0) × (b : ℕ) × (q : List ℕ) × (p ≡ b ∷ q) × (b ≢ 1)
-        which e (inl z) = absurd (omega arith)
+        which : 0 ≡ m → ((takeNumber 8 0 (unpackBits p) ≡ short) × (_≡_ {A = ℕ} 19 18)) ⊎ ((a : ℕ) × (t : List ℕ) × (takeNumber 8 0 (unpackBits p) ≡ taken a t) × (eqb 1 a ≡ false) × (_≡_ {A = ℕ} 18 18)) → (m ≡ 0) × (b : ℕ) × (q : List ℕ) × (p ≡ b ∷ q) × (b ≢ 1)
+        which e (inl (y, z)) = absurd (omega arith)
         which e (inr (a, t, o, c, z)) = let (b, q, ep, d) = byte p bytes a t o c in (sym e, b, q, ep, d)
 
     fields : (o : Outcome ℕ) → settle 18 8 0 (eqb 1) (takeNumber 8 0 (unpackBits p)) ≡ o → afterOutcome o (λ v. readCounted) ≡ broke 18 at → (at ≡ 0) × (b : ℕ) × (q : List ℕ) × (p ≡ b ∷ q) × (b ≢ 1)
     fields (broke i j) e h = let (ei, ej) = broke-same i j 18 at h in field at (e ∙ ap₂ broke ei ej)
     fields (gave v m t) e h = absurd (orderly-counted .breaks m t 18 at h .0)
 
-    only : Broken (unpackBits p) 18 at → (at ≡ 0) × (b : ℕ) × (q : List ℕ) × (p ≡ b ∷ q) × (b ≢ 1)
+    only : Stopped (unpackBits p) 18 at → (at ≡ 0) × (b : ℕ) × (q : List ℕ) × (p ≡ b ∷ q) × (b ≢ 1)
     only (inl e) = fields (settle 18 8 0 (eqb 1) (takeNumber 8 0 (unpackBits p))) refl e
     only (inr (r, t, e, c, z)) = absurd (omega arith)
 
@@ -440,17 +440,17 @@ refused-18 p at bytes = (λ h. only (broken-of p 18 at h), λ (e, b, q, ep, d). 
     given e b q ep d =
         let t : T (all isByte (b ∷ q)) = subst (λ l. T (all isByte l)) ep bytes in
         let c : eqb 1 b ≡ false = T→false (eqb 1 b) (not-T (eqb 1 b) (λ u. d (sym (eqb→eq 1 b u)))) in
-        ap readPack ep ∙ of-broken (b ∷ q) 18 0
+        ap readPack ep ∙ of-stopped (b ∷ q) 18 0
         (inl (ap (λ o. afterOutcome (settle 18 8 0 (eqb 1) o) (λ v. readCounted)) (first b q t) ∙ ap (λ x. afterOutcome (cond x (gave b (0 + 8) (unpackBits q)) (broke 18 0)) (λ v. readCounted)) c))
         ∙ ap (refused 18) (sym e)
 
 -- 21 exactly when the fields of a reading stand there, keep the rules, and no padding stands behind them
 pub refused-21 : (p : List ℕ) (at : ℕ) → (readPack p ≡ refused 21 at)
     ↔ ((r : Reading) × (s : List ℕ) × PackRules r × (unpackBits p ≡ packBits r ++ s) × T (not (isPadding s)) × (at ≡ length (packBits r)))
-unfolding Broken
-refused-21 p at = (λ h. only (broken-of p 21 at h), λ (r, s, k, w, n, e). given r s k w n e)
+unfolding Stopped
+refused-21 p at = (λ h. only (stopped-of p 21 at h), λ (r, s, k, w, n, e). given r s k w n e)
   where
-    only : Broken (unpackBits p) 21 at → (r : Reading) × (s : List ℕ) × PackRules r × (unpackBits p ≡ packBits r ++ s) × T (not (isPadding s)) × (at ≡ length (packBits r))
+    only : Stopped (unpackBits p) 21 at → (r : Reading) × (s : List ℕ) × PackRules r × (unpackBits p ≡ packBits r ++ s) × T (not (isPadding s)) × (at ≡ length (packBits r))
     only (inl e) = absurd (orderly-fields .breaks 0 (unpackBits p) 21 at e .0)
     only (inr (r, t, e, c, z)) =
         let f = fields-read 0 (unpackBits p) r at t (unpack-bits p) e in
@@ -462,7 +462,7 @@ refused-21 p at = (λ h. only (broken-of p 21 at h), λ (r, s, k, w, n, e). give
 
     given : (r : Reading) (s : List ℕ) → PackRules r → unpackBits p ≡ packBits r ++ s → T (not (isPadding s)) → at ≡ length (packBits r) → readPack p ≡ refused 21 at
     given r s k w n e =
-        of-broken p 21 at (inr (r, s, ap (readFields 0) w ∙ fields-of r s k ∙ ap (λ m. gave r m s) (sym e), T→false (isPadding s) n, refl))
+        of-stopped p 21 at (inr (r, s, ap (readFields 0) w ∙ fields-of r s k ∙ ap (λ m. gave r m s) (sym e), T→false (isPadding s) n, refl))
 
 padded-left : (s u : List ℕ) → T (isPadding (s ++ u)) → T (isPadding s)
 padded-left s u t =
@@ -473,10 +473,10 @@ padded-left s u t =
 
 -- a refusal stands whatever follows, unless it is for want of bits
 pub refused-stays : (p q : List ℕ) (n at : ℕ) → n ≢ 19 → readPack p ≡ refused n at → readPack (p ++ q) ≡ refused n at
-unfolding Broken
-refused-stays p q n at d h = of-broken (p ++ q) n at (subst (λ l. Broken l n at) (sym (unpack-append p q)) (go (broken-of p n at h)))
+unfolding Stopped
+refused-stays p q n at d h = of-stopped (p ++ q) n at (subst (λ l. Stopped l n at) (sym (unpack-append p q)) (go (stopped-of p n at h)))
   where
-    go : Broken (unpackBits p) n at → Broken (unpackBits p ++ unpackBits q) n at
+    go : Stopped (unpackBits p) n at → Stopped (unpackBits p ++ unpackBits q) n at
     go (inl e) = inl (orderly-fields .stops 0 (unpackBits p) n at e d (unpackBits q))
     go (inr (r, t, e, c, z)) =
         inr (r, t ++ unpackBits q, orderly-fields .goes 0 (unpackBits p) r at t e (unpackBits q), T→false (isPadding (t ++ unpackBits q)) (not-T (isPadding (t ++ unpackBits q)) (λ u. T-not (isPadding t) (padded-left t (unpackBits q) u) (false→T _ c))), z)
