@@ -11,10 +11,11 @@ use lib.Dec.{T, leb, ltb, eqb, eqb→eq}
 use lib.ListN.{length, length-append}
 use mir.Facts.{and-yes, yes-and, T-not, leb-yes, yes-leb, ltb-yes, yes-ltb, yes-eqb}
 use Rattle.paper.specs.Sizes.{maxCategories, maxNameBytes, maxCategoryLines, maxRanges, maxReferences}
+use Rattle.paper.specs.Refusals.{packEnds, packRule}
 use Rattle.paper.specs.Lists.{all, any, same}
 use Rattle.paper.specs.Text.Scalar.{WellFormed}
 use Rattle.paper.specs.CharDef.Reading.{Definition, Range, Reading, nameBytes, references, accepted, refused}
-use Rattle.paper.specs.Pack.Fields.{byteWidth, version, Field, field, bits, spell, bitsOf, bytesOf}
+use Rattle.paper.specs.Pack.Fields.{numberWidth, byteWidth, version, Field, field, bits, spell, bitsOf, bytesOf}
 use Rattle.paper.specs.Pack.Rules.{isBound}
 use Rattle.paper.specs.Pack.Broken.{Head, Due, versionField, categoriesField, linesField, rangesField, referencesField, nameLengthField, nameField, invokeField, groupField, lengthField, lowerField, upperField, countField, numberField, Next, due, end, width, refusal, Keeps, rangesLeft, numbersLeft, definitionsLeft, namesLeft, after, nothing-yet, one-more, Reaches, Fills, Broken, ends, breaks, adds-up-wrong, left-over}
 use Rattle.paper.specs.Computed.ReadPack.{Taken, short, taken, takeNumber, consTaken, afterByte, takeBytes, Outcome, gave, broke, Reader, afterOutcome, _▹_, give, settle, fieldOr, number, free, bytesField, demand, isPadding, padding, many, lengthRule, nameRule, readName, readNames, readDefinition, countRule, readRange, readRanges, upTo, readBody, readCounted, readFields, readAll, readPack}
@@ -162,7 +163,7 @@ module _ (p : List ℕ) where
             let (em, o) = settle-broke (refusal x) (width x) at ok (take s) n m e in
             subst (λ m. Broken p n m) em (which o)
           where
-            which : ((take s ≡ short) × (19 ≡ n)) ⊎ ((a : A) × (t : List ℕ) × (take s ≡ taken a t) × (ok a ≡ false) × (refusal x ≡ n)) → Broken p n at
+            which : ((take s ≡ short) × (packEnds ≡ n)) ⊎ ((a : A) × (t : List ℕ) × (take s ≡ taken a t) × (ok a ≡ false) × (refusal x ≡ n)) → Broken p n at
             which (inl (o, en)) = subst (λ n. Broken p n at) en (ends (h .reaches) (good .fails s o))
             which (inr (a, t, o, c, en)) =
                 let (v, lt, whole, ev, b) = good .takes s a t (h .left) o in
@@ -256,7 +257,7 @@ module _ (p : List ℕ) where
       (λ l. follows-bind _ (follows-number (upperField h k used) isBound is-bound)
       (λ u. follows-bind _ (follows-number (countField h k used) (countRule (h .references) used) (λ n. up-to (h .references) (used + n)))
       (λ n. follows-bind _
-      (follows-many (number 9 (λ c. ltb c (h .categories))) (numbersLeft h k (used + n))
+      (follows-many (number numberWidth (λ c. ltb c (h .categories))) (numbersLeft h k (used + n))
       (λ j. follows-number (numberField h k (used + n) j) (λ c. ltb c (h .categories)) (below (h .categories))) n)
       (λ cs. follows-give _ (λ at s (e, st). subst (λ m. Stands (rangesLeft h k (used + m)) at s) (sym e) st)))))
 
@@ -287,7 +288,7 @@ module _ (p : List ℕ) where
       }
     where
       passes : (at : ℕ) (s : List ℕ) (a : Unit {0}) (to : ℕ) (t : List ℕ) → Stands (end n total) at s → (b : Bool) → eqb n total ≡ b
-          → _≡_ {A = Outcome (Unit {0})} (cond b (gave tt at s) (broke 20 at)) (gave a to t) → Read to t
+          → _≡_ {A = Outcome (Unit {0})} (cond b (gave tt at s) (broke packRule at)) (gave a to t) → Read to t
       passes at s a to t st true d e =
           let en : n ≡ total = eqb→eq n total (true→T (eqb n total) d) in
           let em : at ≡ to = cc in
@@ -296,11 +297,11 @@ module _ (p : List ℕ) where
       passes at s a to t st false d e = broke-got e
 
       refuses : (at : ℕ) (s : List ℕ) (i j : ℕ) → Stands (end n total) at s → (b : Bool) → eqb n total ≡ b
-          → _≡_ {A = Outcome (Unit {0})} (cond b (gave tt at s) (broke 20 at)) (broke i j) → Broken p i j
+          → _≡_ {A = Outcome (Unit {0})} (cond b (gave tt at s) (broke packRule at)) (broke i j) → Broken p i j
       refuses at s i j st true d e = got-broke e
       refuses at s i j st false d e =
-          let (ei, ej) = broke-same 20 at i j e in
-          subst (λ i. Broken p i j) ei (subst (λ j. Broken p 20 j) ej (adds-up-wrong (st .reaches) (λ en. T-not (eqb n total) (yes-eqb en) (false→T _ d))))
+          let (ei, ej) = broke-same packRule at i j e in
+          subst (λ i. Broken p i j) ei (subst (λ j. Broken p packRule j) ej (adds-up-wrong (st .reaches) (λ en. T-not (eqb n total) (yes-eqb en) (false→T _ d))))
 
   follows-body : (h : Head)
       → Follows (Stands (namesLeft h (h .categories) [])) (readBody (h .categories) (h .lines) (h .ranges) (h .references)) (λ r. Read)
@@ -350,10 +351,10 @@ pub record Complete (p : List ℕ) : Type 0 where
   pub fills : Fills rest
 
 fills-padding : (s : List ℕ) → Fills s → T (isPadding s)
-fills-padding s f = yes-and (ltb (length s) 8) (all (eqb 0) s) (yes-ltb (f .few)) (f .zeros)
+fills-padding s f = yes-and (ltb (length s) byteWidth) (all (eqb 0) s) (yes-ltb (f .few)) (f .zeros)
 
 padding-fills : (s : List ℕ) → T (isPadding s) → Fills s
-padding-fills s t = let g = and-yes (ltb (length s) 8) (all (eqb 0) s) t in record { few = ltb-yes (g .0); zeros = g .1 }
+padding-fills s t = let g = and-yes (ltb (length s) byteWidth) (all (eqb 0) s) t in record { few = ltb-yes (g .0); zeros = g .1 }
 
 -- what the reader refuses is the first broken field
 pub refused-broken : (p : List ℕ) (n at : ℕ) → readPack p ≡ refused n at → Broken p n at

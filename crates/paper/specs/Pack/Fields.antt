@@ -44,6 +44,16 @@ countWidth = 14
 abbrev pub numberWidth : ℕ
 numberWidth = 9
 
+-- of the head, of a definition, and of a range without its category numbers
+abbrev pub headWidth : ℕ
+headWidth = versionWidth + categoriesWidth + linesWidth + rangesWidth + referencesWidth
+
+abbrev pub definitionWidth : ℕ
+definitionWidth = flagWidth + flagWidth + lengthWidth
+
+abbrev pub rangeWidth : ℕ
+rangeWidth = boundWidth + boundWidth + countWidth
+
 abbrev pub version : ℕ
 version = 1
 
