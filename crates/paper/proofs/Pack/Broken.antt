@@ -118,7 +118,7 @@ broken-stops : {p : List ℕ} {n at : ℕ} → Broken p n at → Stops p at (som
 broken-stops (ends {x = x} {rest = s} r h) = record { next = due x; rest = s; reaches = r; stop = at-end h }
 broken-stops (breaks {x = x} v s r lt n) = record { next = due x; rest = bits (width x) v ++ s; reaches = r; stop = at-rule v s refl lt n }
 broken-stops (adds-up-wrong {n = n} {total = m} {rest = s} r h) = record { next = end n m; rest = s; reaches = r; stop = at-total h }
-broken-stops (left-over {total = m} {rest = s} r h) = record { next = end m m; rest = s; reaches = r; stop = at-padding refl h }
+broken-stops (left-over {rest = s} r h) = record { next = _; rest = s; reaches = r; stop = at-padding refl h }
 
 complete-stops : {p : List ℕ} (c : Complete p) → Stops p (c .place) none
 complete-stops c = record { next = end (c .total) (c .total); rest = c .rest; reaches = c .reaches; stop = nowhere refl (c .fills) }

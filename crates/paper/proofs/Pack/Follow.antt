@@ -203,13 +203,15 @@ module _ (p : List ℕ) where
       (follows-settle (nameField h k before n) (bytesOf n) (takeBytes n) (takes-bytes n) (nameRule before) (named n))
       (λ name at s (v, ev, st). subst (λ m. Stands (namesLeft h k (m ∷ before)) at s) ev st))
     where
-      rule : (n : ℕ) → T (lengthRule used n) ↔ ((1 ≤ n) × (nameBytes before + n ≤ maxNameBytes))
+      rule : (n : ℕ) → T (lengthRule used n) ↔ Keeps (nameLengthField h k before) n
       rule n = (
         λ t. (let g = and-yes (ltb 0 n) (leb (used + n) maxNameBytes) t in
             let a : 0 < n = ltb-yes (g .0) in
             let b : used + n ≤ maxNameBytes = leb-yes (g .1) in
-            (omega arith, omega arith)),
-        λ (a, b). yes-and (ltb 0 n) (leb (used + n) maxNameBytes) (yes-ltb a) (yes-leb (let c : used + n ≤ maxNameBytes = omega arith in c)),
+            omega arith),
+        λ kept. (let a : 0 < n = omega arith in
+            let b : used + n ≤ maxNameBytes = omega arith in
+            yes-and (ltb 0 n) (leb (used + n) maxNameBytes) (yes-ltb a) (yes-leb b)),
       )
 
       named : (n v : ℕ) → T (formed (bytesOf n v) && not (any (same (bytesOf n v)) before)) ↔ (WellFormed (bytesOf n v) × T (not (any (same (bytesOf n v)) before)))
@@ -240,12 +242,6 @@ module _ (p : List ℕ) where
 
   -- ---- ranges
 
-  up-to : (limit v : ℕ) → T (leb v limit) ↔ (v ≤ limit)
-  up-to limit v = (λ t. leb-yes t, λ h. yes-leb h)
-
-  below : (limit v : ℕ) → T (ltb v limit) ↔ (v < limit)
-  below limit v = (λ t. ltb-yes t, λ h. yes-ltb h)
-
   is-bound : (v : ℕ) → T (isBound v) ↔ T (isBound v)
   is-bound v = (λ t. t, λ t. t)
 
@@ -255,11 +251,23 @@ module _ (p : List ℕ) where
   follows-range h k used =
       follows-bind _ (follows-number (lowerField h k used) isBound is-bound)
       (λ l. follows-bind _ (follows-number (upperField h k used) isBound is-bound)
-      (λ u. follows-bind _ (follows-number (countField h k used) (countRule (h .references) used) (λ n. up-to (h .references) (used + n)))
+      (λ u. follows-bind _ (follows-number (countField h k used) (countRule (h .references) used) counted)
       (λ n. follows-bind _
       (follows-many (number numberWidth (λ c. ltb c (h .categories))) (numbersLeft h k (used + n))
-      (λ j. follows-number (numberField h k (used + n) j) (λ c. ltb c (h .categories)) (below (h .categories))) n)
+      (λ j. follows-number (numberField h k (used + n) j) (λ c. ltb c (h .categories)) (known (used + n) j)) n)
       (λ cs. follows-give _ (λ at s (e, st). subst (λ m. Stands (rangesLeft h k (used + m)) at s) (sym e) st)))))
+    where
+      counted : (n : ℕ) → T (countRule (h .references) used n) ↔ Keeps (countField h k used) n
+      counted n = (
+        λ t. (let a : used + n ≤ h .references = leb-yes t in omega arith),
+        λ kept. (let a : used + n ≤ h .references = omega arith in yes-leb a),
+      )
+
+      known : (u j c : ℕ) → T (ltb c (h .categories)) ↔ Keeps (numberField h k u j) c
+      known u j c = (
+        λ t. (let a : c < h .categories = ltb-yes t in omega arith),
+        λ kept. (let a : c < h .categories = omega arith in yes-ltb a),
+      )
 
   follows-ranges : (h : Head) (k used : ℕ)
       → Follows (Stands (rangesLeft h k used)) (readRanges k (h .categories) (h .references) used) (λ gs. Stands (end (used + references gs) (h .references)))
@@ -322,6 +330,9 @@ module _ (p : List ℕ) where
           (λ gs. Stands (end (references gs) (h .references)))
       follows-ranges-of ds =
           record { passes = λ at s a to t (e, st) d. ranges-of .passes at s a to t st d; refuses = λ at s n m (e, st) d. ranges-of .refuses at s n m st d }
+
+  up-to : (limit v : ℕ) → T (leb v limit) ↔ (v ≤ limit)
+  up-to limit v = (λ t. leb-yes t, λ h. yes-leb h)
 
   follows-counted : Follows (Stands (due categoriesField)) readCounted (λ r. Read)
   unfolding readCounted

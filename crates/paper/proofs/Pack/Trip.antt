@@ -377,13 +377,13 @@ definition-part at s d to t b h =
 
 -- ---- ranges
 
+first-of-four : (a b c d : Bool) → T (a && b && c && d) → T a
+first-of-four a b c d t = and-yes a b (and-yes (a && b) c (and-yes (a && b && c) d t .0) .0) .0
+
 pub bound-bits : (c : ℕ) → T (isBound c) → c < 2 ^ boundWidth
 unfolding isBound
 bound-bits c t =
-    let a = and-yes (leb c maxU16 && not (Rattle.paper.specs.Text.Scalar.between 0xD800 0xDFFF c) && not (eqb c 0xFEFF)) (not (eqb c 0xFFFE)) t in
-    let b = and-yes (leb c maxU16 && not (Rattle.paper.specs.Text.Scalar.between 0xD800 0xDFFF c)) (not (eqb c 0xFEFF)) (a .0) in
-    let d = and-yes (leb c maxU16) (not (Rattle.paper.specs.Text.Scalar.between 0xD800 0xDFFF c)) (b .0) in
-    let e : c ≤ maxU16 = leb-yes (d .0) in
+    let h : c ≤ maxU16 = leb-yes (first-of-four (leb c maxU16) _ _ _ t) in
     omega arith
 
 abbrev knows : ℕ → Range → Bool

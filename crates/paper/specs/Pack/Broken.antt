@@ -25,7 +25,7 @@ pub record Head : Type 0 where
   pub ranges : ℕ
   pub references : ℕ
 
--- A field that is due, and what was said before it as far as it matters. `left`: so many entries of its kind are to come behind this one.
+-- a field that is due, with what the fields before it have said as far as it matters; so many entries of its kind are `left` behind its own
 pub data Due : Type 0 where
   -- head
   versionField : Due
@@ -33,25 +33,27 @@ pub data Due : Type 0 where
   linesField : (categories : ℕ) → Due
   rangesField : (categories lines : ℕ) → Due
   referencesField : (categories lines ranges : ℕ) → Due
-  -- each category, behind these names
+  -- each category, behind these names, the nearest first: its length, then its bytes
   nameLengthField : Head → (left : ℕ) → (names : List (List ℕ)) → Due
   nameField : Head → (left : ℕ) → (names : List (List ℕ)) → (len : ℕ) → Due
   -- each definition
   invokeField : Head → (left : ℕ) → Due
   groupField : Head → (left : ℕ) → Due
   lengthField : Head → (left : ℕ) → Due
-  -- each range, behind ranges with so many references; each of its category numbers, where its count is among the references
+  -- each range, behind ranges with so many references; then each of its category numbers, with so many `more`, the count being among the references
   lowerField : Head → (left references : ℕ) → Due
   upperField : Head → (left references : ℕ) → Due
   countField : Head → (left references : ℕ) → Due
   numberField : Head → (left references : ℕ) → (more : ℕ) → Due
 
--- the next field; or the last range is behind, with so many references in all where the head says so many
+-- a field is next; or there is none, behind ranges with so many references in all where the head says `total`
 pub data Next : Type 0 where
   due : Due → Next
   end : (references total : ℕ) → Next
 
--- a field's width in bits, and the number that refuses a value against its rule
+-- below, c, l and g are numbers of categories, category lines and ranges, h the head, k `left`, ns `names`, u `references` and j `more`
+
+-- a field's width in bits, and the number by which breaking its rule is refused
 abbrev pub form : Due → ℕ × ℕ
 form versionField = (versionWidth, packVersion)
 form categoriesField = (categoriesWidth, packRule)
@@ -93,7 +95,7 @@ Keeps (numberField h k u j) c = c < h .categories
 
 -- ---- what stands behind a field
 
--- with so many entries to come
+-- the next entry, where so many are left
 abbrev pub rangesLeft : Head → ℕ → ℕ → Next
 rangesLeft h zero u = end u (h .references)
 rangesLeft h (suc k) u = due (lowerField h k u)

@@ -108,7 +108,7 @@ packBits r = spell (packFields r)
 abbrev pub bitsOf : List ℕ → List ℕ
 bitsOf bytes = joined (map (bits byteWidth) bytes)
 
--- the n bytes that n bytes' bits spell, where they are one field with the value v
+-- n bytes as one field with the value v: the most significant first
 abbrev pub bytesOf : ℕ → ℕ → List ℕ
 bytesOf zero v = []
 bytesOf (suc n) v = v / 2 ^ (byteWidth * n) % 2 ^ byteWidth ∷ bytesOf n v
