@@ -4,3 +4,5 @@ pub mod Rules
 pub mod Bits
 pub mod Trip
 pub mod Verdict
+pub mod Follow
+pub mod Broken

@@ -8,20 +8,17 @@ use mathlib.Core.Bool.{Bool, true}
 use mathlib.Core.List.{List, [], _∷_, _++_, map, append-assoc}
 use lib.Dec.{T, ltb, eqb, eqb→eq}
 use lib.ListN.{length}
+use lib.Pow.{pow-add}
 use mir.Facts.{and-yes, yes-and, ltb-yes, yes-ltb}
-use Rattle.paper.specs.Lists.{all, joined}
+use Rattle.paper.specs.Lists.{all}
 use Rattle.paper.specs.Numbers.Bytes.{isByte}
-use Rattle.paper.specs.Pack.Fields.{Field, field, bits, fieldBits, byte, inBytes}
+use Rattle.paper.specs.Pack.Fields.{byteWidth, Field, field, bits, fieldBits, spell, bytesOf, byte, inBytes}
 use Rattle.paper.specs.Computed.ReadPack.{unpackBits, Taken, short, taken, takeNumber, consTaken, afterByte, takeBytes, isPadding}
 use Rattle.paper.proofs.Lists.Facts.{all-append}
 use Rattle.paper.proofs.CharDef.Sound.{zero-one, all-left, all-right}
 
 abbrev pub isBit : ℕ → Bool
 isBit b = ltb b 2
-
--- the bits of fields
-abbrev pub spell : List Field → List ℕ
-spell fs = joined (map fieldBits fs)
 
 pub spell-append : (fs gs : List Field) → spell (fs ++ gs) ≡ spell fs ++ spell gs
 spell-append [] gs = refl
@@ -40,7 +37,7 @@ spell-bits (f ∷ fs) = all-append isBit (fieldBits f) (spell fs) (bits-are (f .
 
 pub unpack-bits : (p : List ℕ) → T (all isBit (unpackBits p))
 unpack-bits [] = tt
-unpack-bits (b ∷ p) = all-append isBit (bits 8 b) (unpackBits p) (bits-are 8 b) (unpack-bits p)
+unpack-bits (b ∷ p) = all-append isBit (bits byteWidth b) (unpackBits p) (bits-are byteWidth b) (unpack-bits p)
 
 -- ---- a number
 
@@ -99,34 +96,34 @@ taken-number w s v t b h =
 
 -- ---- bytes one after another
 
-pub bytes-taken : (bs s : List ℕ) → T (all isByte bs) → takeBytes (length bs) (spell (map (field 8) bs) ++ s) ≡ taken bs s
+pub bytes-taken : (bs s : List ℕ) → T (all isByte bs) → takeBytes (length bs) (spell (map (field byteWidth) bs) ++ s) ≡ taken bs s
 bytes-taken [] s b = refl
 bytes-taken (x ∷ bs) s b =
     let g = and-yes (isByte x) (all isByte bs) b in
-    let more : List ℕ = spell (map (field 8) bs) ++ s in
-    ap (λ o. afterByte o (λ t. takeBytes (length bs) t)) (number-taken 8 x more (ltb-yes (g .0)))
+    let more : List ℕ = spell (map (field byteWidth) bs) ++ s in
+    ap (λ o. afterByte o (λ t. takeBytes (length bs) t)) (number-taken byteWidth x more (ltb-yes (g .0)))
     ∙ ap (consTaken x) (bytes-taken bs s (g .1))
 
 pub record Bytes (n : ℕ) (bs s t : List ℕ) : Type 0 where
   pub size : length bs ≡ n
-  pub whole : s ≡ spell (map (field 8) bs) ++ t
+  pub whole : s ≡ spell (map (field byteWidth) bs) ++ t
   pub left : T (all isBit t)
 
 pub taken-bytes : (n : ℕ) (s bs t : List ℕ) → T (all isBit s) → takeBytes n s ≡ taken bs t → Bytes n bs s t
 taken-bytes zero s bs t b h =
     let eb : [] ≡ bs = cc in
     let et : s ≡ t = cc in
-    record { size = ap length (sym eb); whole = et ∙ ap (λ l. spell (map (field 8) l) ++ t) eb; left = subst (λ l. T (all isBit l)) et b }
-taken-bytes (suc n) s bs t b h = go (takeNumber 8 0 s) refl h (taken-bytes n)
+    record { size = ap length (sym eb); whole = et ∙ ap (λ l. spell (map (field byteWidth) l) ++ t) eb; left = subst (λ l. T (all isBit l)) et b }
+taken-bytes (suc n) s bs t b h = go (takeNumber byteWidth 0 s) refl h (taken-bytes n)
   where
-    go : (o : Taken ℕ) → takeNumber 8 0 s ≡ o → afterByte o (λ t. takeBytes n t) ≡ taken bs t
+    go : (o : Taken ℕ) → takeNumber byteWidth 0 s ≡ o → afterByte o (λ t. takeBytes n t) ≡ taken bs t
         → ((s bs t : List ℕ) → T (all isBit s) → takeBytes n s ≡ taken bs t → Bytes n bs s t)
         → Bytes (suc n) bs s t
     go short e h ih = short-taken h
     go (taken x u) e h ih = rest (takeBytes n u) refl h
       where
-        one : (x < 2 ^ 8) × (s ≡ bits 8 x ++ u) × T (all isBit u)
-        one = taken-number 8 s x u b e
+        one : (x < 2 ^ byteWidth) × (s ≡ bits byteWidth x ++ u) × T (all isBit u)
+        one = taken-number byteWidth s x u b e
 
         rest : (o : Taken (List ℕ)) → takeBytes n u ≡ o → consTaken x o ≡ taken bs t → Bytes (suc n) bs s t
         rest short d h = short-taken h
@@ -136,7 +133,7 @@ taken-bytes (suc n) s bs t b h = go (takeNumber 8 0 s) refl h (taken-bytes n)
             let m = ih u cs v (one .2) d in
             record {
               size = ap length (sym eb) ∙ ap suc (m .size);
-              whole = one .1 ∙ ap (λ l. bits 8 x ++ l) (m .whole) ∙ ap₂ (λ l k. spell (map (field 8) l) ++ k) eb et;
+              whole = one .1 ∙ ap (λ l. bits byteWidth x ++ l) (m .whole) ∙ ap₂ (λ l k. spell (map (field byteWidth) l) ++ k) eb et;
               left = subst (λ l. T (all isBit l)) et (m .left);
             }
 
@@ -150,21 +147,21 @@ byte-horner : (a b c d e f g h : ℕ) → byte a b c d e f g h ≡ horner a b c 
 byte-horner a b c d e f g h = omega arith
 
 byte-unpack : (a b c d e f g h : ℕ) → T (all isBit (a ∷ b ∷ c ∷ d ∷ e ∷ f ∷ g ∷ h ∷ []))
-    → bits 8 (byte a b c d e f g h) ≡ a ∷ b ∷ c ∷ d ∷ e ∷ f ∷ g ∷ h ∷ []
+    → bits byteWidth (byte a b c d e f g h) ≡ a ∷ b ∷ c ∷ d ∷ e ∷ f ∷ g ∷ h ∷ []
 byte-unpack a b c d e f g h t =
     let l : List ℕ = a ∷ b ∷ c ∷ d ∷ e ∷ f ∷ g ∷ h ∷ [] in
-    ap (bits 8) (byte-horner a b c d e f g h) ∙ sym (taken-number 8 l (horner a b c d e f g h) [] t refl .1)
+    ap (bits byteWidth) (byte-horner a b c d e f g h) ∙ sym (taken-number byteWidth l (horner a b c d e f g h) [] t refl .1)
 
 byte-small : (a b c d e f g h : ℕ) → T (all isBit (a ∷ b ∷ c ∷ d ∷ e ∷ f ∷ g ∷ h ∷ [])) → T (isByte (byte a b c d e f g h))
 byte-small a b c d e f g h t =
     let l : List ℕ = a ∷ b ∷ c ∷ d ∷ e ∷ f ∷ g ∷ h ∷ [] in
-    subst (λ n. T (isByte n)) (sym (byte-horner a b c d e f g h)) (yes-ltb (taken-number 8 l (horner a b c d e f g h) [] t refl .0))
+    subst (λ n. T (isByte n)) (sym (byte-horner a b c d e f g h)) (yes-ltb (taken-number byteWidth l (horner a b c d e f g h) [] t refl .0))
 
 byte-of : (b : ℕ) → b < 256 → byte (b / 128 % 2) (b / 64 % 2) (b / 32 % 2) (b / 16 % 2) (b / 8 % 2) (b / 4 % 2) (b / 2 % 2) (b / 1 % 2) ≡ b
 byte-of b h =
     let v : ℕ = horner (b / 128 % 2) (b / 64 % 2) (b / 32 % 2) (b / 16 % 2) (b / 8 % 2) (b / 4 % 2) (b / 2 % 2) (b / 1 % 2) in
     byte-horner (b / 128 % 2) (b / 64 % 2) (b / 32 % 2) (b / 16 % 2) (b / 8 % 2) (b / 4 % 2) (b / 2 % 2) (b / 1 % 2)
-    ∙ same-number v b (number-taken 8 b [] h)
+    ∙ same-number v b (number-taken byteWidth b [] h)
   where
     same-number : (v b : ℕ) → taken v [] ≡ taken b [] → v ≡ b
     same-number v b e = cc
@@ -217,12 +214,12 @@ inBytes-bytes (a ∷ b ∷ c ∷ d ∷ e ∷ f ∷ g ∷ h ∷ s) t =
     let first : List ℕ = a ∷ b ∷ c ∷ d ∷ e ∷ f ∷ g ∷ h ∷ [] in
     yes-and (isByte (byte a b c d e f g h)) (all isByte (inBytes s)) (byte-small a b c d e f g h (all-left isBit first s t)) (inBytes-bytes s (all-right isBit first s t))
 
-pad-is : (n : ℕ) (pad : List ℕ) → T (isPadding pad) → (length pad < 8 → length pad ≡ n) → pad ≡ zeros n
+pad-is : (n : ℕ) (pad : List ℕ) → T (isPadding pad) → (length pad < byteWidth → length pad ≡ n) → pad ≡ zeros n
 pad-is n pad t f =
-    let g = and-yes (ltb (length pad) 8) (all (eqb 0) pad) t in
+    let g = and-yes (ltb (length pad) byteWidth) (all (eqb 0) pad) t in
     zeros-are pad (g .1) ∙ ap zeros (f (ltb-yes (g .0)))
 
-pub inBytes-pad : (l pad : List ℕ) → T (isPadding pad) → length (l ++ pad) % 8 ≡ 0 → inBytes (l ++ pad) ≡ inBytes l
+pub inBytes-pad : (l pad : List ℕ) → T (isPadding pad) → length (l ++ pad) % byteWidth ≡ 0 → inBytes (l ++ pad) ≡ inBytes l
 unfolding inBytes
 inBytes-pad [] pad t h = ap inBytes (pad-is 0 pad t (λ k. omega arith))
 inBytes-pad (a ∷ []) pad t h = ap (λ l. inBytes (a ∷ l)) (pad-is 7 pad t (λ k. omega arith))
@@ -234,6 +231,52 @@ inBytes-pad (a ∷ b ∷ c ∷ d ∷ e ∷ f ∷ []) pad t h = ap (λ l. inBytes
 inBytes-pad (a ∷ b ∷ c ∷ d ∷ e ∷ f ∷ g ∷ []) pad t h = ap (λ l. inBytes (a ∷ b ∷ c ∷ d ∷ e ∷ f ∷ g ∷ l)) (pad-is 1 pad t (λ k. omega arith))
 inBytes-pad (a ∷ b ∷ c ∷ d ∷ e ∷ f ∷ g ∷ i ∷ s) pad t h = ap (λ l. byte a b c d e f g i ∷ l) (inBytes-pad s pad t (omega arith))
 
-pub unpack-length : (p : List ℕ) → length (unpackBits p) % 8 ≡ 0
+pub unpack-length : (p : List ℕ) → length (unpackBits p) % byteWidth ≡ 0
 unpack-length [] = refl
 unpack-length (b ∷ p) = let h = unpack-length p in omega arith
+
+-- ---- bytes as one field
+
+bits-add : (a b v : ℕ) → bits (a + b) v ≡ bits a (v / 2 ^ b) ++ bits b v
+bits-add zero b v = let e : 0 + b ≡ b = omega arith in ap (λ w. bits w v) e
+bits-add (suc a) b v =
+    let e : suc a + b ≡ suc (a + b) = omega arith in
+    let d : v / 2 ^ (a + b) ≡ v / 2 ^ b / 2 ^ a =
+    ap (λ w. v / 2 ^ w) (let c : a + b ≡ b + a = omega arith in c) ∙ ap (λ m. v / m) (pow-add 2 b a) ∙ sym (div-div-eq-div-mul v (2 ^ b) (2 ^ a)) in
+    ap (λ w. bits w v) e ∙ ap₂ (λ q l. q % 2 ∷ l) d (bits-add a b v)
+
+byte-bits : (q : ℕ) → bits byteWidth (q % 2 ^ byteWidth) ≡ bits byteWidth q
+byte-bits q =
+    ap₂ (λ x l. x ∷ l) (omega arith)
+    (ap₂ (λ x l. x ∷ l) (omega arith)
+    (ap₂ (λ x l. x ∷ l) (omega arith)
+    (ap₂ (λ x l. x ∷ l) (omega arith)
+    (ap₂ (λ x l. x ∷ l) (omega arith)
+    (ap₂ (λ x l. x ∷ l) (omega arith)
+    (ap₂ (λ x l. x ∷ l) (omega arith)
+    (ap (λ x. x ∷ []) (omega arith))))))))
+
+pub bytesOf-bits : (n v : ℕ) → bits (byteWidth * n) v ≡ spell (map (field byteWidth) (bytesOf n v))
+bytesOf-bits zero v = refl
+bytesOf-bits (suc n) v =
+    let e : byteWidth * suc n ≡ byteWidth + byteWidth * n = omega arith in
+    ap (λ w. bits w v) e ∙ bits-add byteWidth (byteWidth * n) v
+    ∙ ap₂ (λ k l. k ++ l) (sym (byte-bits (v / 2 ^ (byteWidth * n)))) (bytesOf-bits n v)
+
+pub bytesOf-length : (n v : ℕ) → length (bytesOf n v) ≡ n
+bytesOf-length zero v = refl
+bytesOf-length (suc n) v = ap suc (bytesOf-length n v)
+
+pub bytesOf-bytes : (n v : ℕ) → T (all isByte (bytesOf n v))
+bytesOf-bytes zero v = tt
+bytesOf-bytes (suc n) v =
+    yes-and (isByte (v / 2 ^ (byteWidth * n) % 2 ^ byteWidth)) (all isByte (bytesOf n v)) (yes-ltb (small (v / 2 ^ (byteWidth * n)))) (bytesOf-bytes n v)
+  where
+    small : (q : ℕ) → q % 2 ^ byteWidth < 256
+    small q = omega arith
+
+-- w bits say a number exactly where there are so many
+pub number-short : (w high : ℕ) (s : List ℕ) → takeNumber w high s ≡ short → length s < w
+number-short zero high s h = short-taken (sym h)
+number-short (suc w) high [] h = omega arith
+number-short (suc w) high (x ∷ s) h = let k = number-short w (high * 2 + x) s h in omega arith

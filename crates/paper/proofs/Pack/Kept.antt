@@ -1,6 +1,6 @@
 -- A reading that fits a text keeps the rules of a pack.
 -- Assumes nothing.
-use Prim.Native.Nat.{ℕ, _<_, _≤_}
+use Prim.Native.Nat.{ℕ, _+_, _<_, _≤_}
 use native.Mathlib.Omega.{arith}
 use mathlib.Core.Path.{_≡_, refl, sym, subst}
 use mathlib.Core.Logic.{_≢_}
@@ -8,8 +8,9 @@ use mathlib.Core.Bool.{Bool, true, false, not, cond, _&&_, _||_}
 use mathlib.Core.List.{List, [], _∷_, _++_, map}
 use lib.Dec.{T, leb, ltb, eqb, eqb→eq}
 use mir.Facts.{and-yes, yes-and, T-not, not-T, yes-leb, yes-ltb}
+use Rattle.paper.specs.Sizes.{maxU32}
 use Rattle.paper.specs.Lists.{all, full, any, joined, freshAfter, firstSeen, same}
-use Rattle.paper.specs.Text.Scalar.{between, isScalar, utf8Of, utf8, WellFormed}
+use Rattle.paper.specs.Text.Scalar.{lf, between, isScalar, utf8Of, utf8, WellFormed}
 use Rattle.paper.specs.CharDef.Line.{Line, blank, category, range, standsFor, Bound, Bounds, one, two, Names, no-names, more-names, isNameChar, isFieldChar, LineFits}
 use Rattle.paper.specs.CharDef.Reading.{Reading, namesOf, definitionsOf, rangesOf, readingOf, Within, joinLF, EachFits, done, next, Fits, accepted}
 use Rattle.paper.specs.Pack.Fields.{packBytes}
@@ -118,8 +119,8 @@ unfolding definitionsOf
 line-sized cs blank f a = tt
 line-sized cs (category name i g n) f a =
     let h : n ≤ 0xFFFF_FFFF = f .lengths .fits in
-    let k : n < 0x1_0000_0000 = omega arith in
-    yes-and (ltb n 0x1_0000_0000) true (yes-ltb k) tt
+    let k : n < maxU32 + 1 = omega arith in
+    yes-and (ltb n (maxU32 + 1)) true (yes-ltb k) tt
 line-sized cs (range lower upper names) f a = tt
 
 stands-bound : (c : ℕ) → c ≤ 0xFFFF → c ≢ 0xFEFF → c ≢ 0xFFFE → T (isBound (standsFor c))
@@ -163,8 +164,8 @@ split-scalars : (texts : List (List ℕ)) → T (all isScalar (joinLF texts)) �
 split-scalars [] a = tt
 split-scalars (l ∷ []) a = yes-and (all isScalar l) true a tt
 split-scalars (l ∷ m ∷ ls) a =
-    yes-and (all isScalar l) (all (all isScalar) (m ∷ ls)) (all-left isScalar l (10 ∷ joinLF (m ∷ ls)) a)
-    (split-scalars (m ∷ ls) (and-yes (isScalar 10) _ (all-right isScalar l (10 ∷ joinLF (m ∷ ls)) a) .1))
+    yes-and (all isScalar l) (all (all isScalar) (m ∷ ls)) (all-left isScalar l (lf ∷ joinLF (m ∷ ls)) a)
+    (split-scalars (m ∷ ls) (and-yes (isScalar lf) _ (all-right isScalar l (lf ∷ joinLF (m ∷ ls)) a) .1))
 
 lines-rules : (css : List (List ℕ)) (ls : List Line) → EachFits css ls → T (all (all isScalar) css) → Within (readingOf ls) → PackRules (readingOf ls)
 unfolding readingOf good

@@ -12,6 +12,7 @@ use lib.Dec.{T, leb}
 use lib.ListN.{length, drop, take-append-drop}
 use lib.Seq.{drop-nil, take-length}
 use mir.Facts.{and-yes, yes-and, leb-yes, yes-leb}
+use Rattle.paper.specs.Sizes.{maxCategories, maxNameBytes, maxCategoryLines, maxRanges, maxReferences}
 use Rattle.paper.specs.Lists.{all}
 use Rattle.paper.specs.Text.Scalar.{WellFormed, nothing}
 use Rattle.paper.specs.CharDef.Reading.{Reading, nameBytes, references, Within}
@@ -89,21 +90,21 @@ all-each P p f (x ∷ xs) e = let h = and-yes (p x) (all p xs) e in (f x (h .0),
 within-is : (r : Reading) → T (within r) → Within r
 unfolding within
 within-is r t =
-    let a = and-yes (leb (length (r .names)) 512) _ t in
-    let b = and-yes (leb (nameBytes (r .names)) 16384) _ (a .1) in
-    let c = and-yes (leb (length (r .definitions)) 512) _ (b .1) in
-    let d = and-yes (leb (length (r .ranges)) 2048) _ (c .1) in
-    let e = and-yes (leb (references (r .ranges)) 8192) true (d .1) in
+    let a = and-yes (leb (length (r .names)) maxCategories) _ t in
+    let b = and-yes (leb (nameBytes (r .names)) maxNameBytes) _ (a .1) in
+    let c = and-yes (leb (length (r .definitions)) maxCategoryLines) _ (b .1) in
+    let d = and-yes (leb (length (r .ranges)) maxRanges) _ (c .1) in
+    let e = and-yes (leb (references (r .ranges)) maxReferences) true (d .1) in
     record { categories-fit = leb-yes (a .0); names-fit = leb-yes (b .0); definitions-fit = leb-yes (c .0); ranges-fit = leb-yes (d .0); references-fit = leb-yes (e .0) }
 
 is-within : (r : Reading) → Within r → T (within r)
 unfolding within
 is-within r w =
-    yes-and (leb (length (r .names)) 512) _ (yes-leb (w .categories-fit))
-    (yes-and (leb (nameBytes (r .names)) 16384) _ (yes-leb (w .names-fit))
-    (yes-and (leb (length (r .definitions)) 512) _ (yes-leb (w .definitions-fit))
-    (yes-and (leb (length (r .ranges)) 2048) _ (yes-leb (w .ranges-fit))
-    (yes-and (leb (references (r .ranges)) 8192) true (yes-leb (w .references-fit)) tt))))
+    yes-and (leb (length (r .names)) maxCategories) _ (yes-leb (w .categories-fit))
+    (yes-and (leb (nameBytes (r .names)) maxNameBytes) _ (yes-leb (w .names-fit))
+    (yes-and (leb (length (r .definitions)) maxCategoryLines) _ (yes-leb (w .definitions-fit))
+    (yes-and (leb (length (r .ranges)) maxRanges) _ (yes-leb (w .ranges-fit))
+    (yes-and (leb (references (r .ranges)) maxReferences) true (yes-leb (w .references-fit)) tt))))
 
 pub rules-kept : (r : Reading) → T (keepsRules r) → PackRules r
 unfolding keepsRules

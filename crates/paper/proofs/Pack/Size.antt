@@ -8,11 +8,12 @@ use mathlib.Core.List.{List, [], _∷_, _++_, map}
 use lib.Dec.{T, ltb}
 use lib.ListN.{length, length-append}
 use mir.Facts.{and-yes, yes-and, yes-ltb}
+use Rattle.paper.specs.Sizes.{maxPackBytes}
 use Rattle.paper.specs.Lists.{all, any, joined, sum, firstSeen, positionOf, same}
 use Rattle.paper.specs.Text.Scalar.{utf8}
 use Rattle.paper.specs.CharDef.Line.{Line, blank, category, range}
 use Rattle.paper.specs.CharDef.Reading.{Definition, Range, Reading, namesOf, rangesOf, readingOf, nameBytes, references, Within}
-use Rattle.paper.specs.Pack.Fields.{Field, field, head, nameFields, definitionFields, rangeFields, bits, fieldBits, packBits, inBytes, packBytes}
+use Rattle.paper.specs.Pack.Fields.{nameLengthWidth, byteWidth, numberWidth, headWidth, definitionWidth, rangeWidth, Field, field, head, nameFields, definitionFields, rangeFields, bits, fieldBits, packBits, inBytes, packBytes}
 use Rattle.paper.specs.Pack.Rules.{numbered}
 use Rattle.paper.proofs.Lists.Facts.{all-append}
 use Rattle.paper.proofs.CharDef.Sound.{all-left, all-right}
@@ -66,31 +67,32 @@ pub width-map : (w : ℕ) (l : List ℕ) → width (map (field w) l) ≡ length 
 width-map w [] = omega (arith, native.Mathlib.Nat.zero-mul w)
 width-map w (x ∷ l) = ap (λ k. w + k) (width-map w l) ∙ omega (arith, native.Mathlib.Nat.suc-mul (length l) w)
 
-names-width : (ns : List (List ℕ)) → width (joined (map nameFields ns)) ≡ 15 * length ns + 8 * nameBytes ns
+names-width : (ns : List (List ℕ)) → width (joined (map nameFields ns)) ≡ nameLengthWidth * length ns + byteWidth * nameBytes ns
 unfolding nameBytes
 names-width [] = refl
 names-width (n ∷ ns) =
     let e = names-width ns in
-    let a : width (map (field 8) n ++ joined (map nameFields ns)) ≡ width (map (field 8) n) + width (joined (map nameFields ns)) = width-append (map (field 8) n) (joined (map nameFields ns)) in
-    let b : width (map (field 8) n) ≡ length n * 8 = width-map 8 n in
+    let a : width (map (field byteWidth) n ++ joined (map nameFields ns)) ≡ width (map (field byteWidth) n) + width (joined (map nameFields ns)) = width-append (map (field byteWidth) n) (joined (map nameFields ns)) in
+    let b : width (map (field byteWidth) n) ≡ length n * byteWidth = width-map byteWidth n in
     omega arith
 
-definitions-width : (ds : List Definition) → width (joined (map definitionFields ds)) ≡ 34 * length ds
+definitions-width : (ds : List Definition) → width (joined (map definitionFields ds)) ≡ definitionWidth * length ds
 definitions-width [] = refl
 definitions-width (d ∷ ds) = let e = definitions-width ds in omega arith
 
-ranges-width : (gs : List Range) → width (joined (map rangeFields gs)) ≡ 46 * length gs + 9 * references gs
+ranges-width : (gs : List Range) → width (joined (map rangeFields gs)) ≡ rangeWidth * length gs + numberWidth * references gs
 unfolding references
 ranges-width [] = refl
 ranges-width (g ∷ gs) =
     let e = ranges-width gs in
     let cs : List ℕ = g .categories in
-    let a : width (map (field 9) (g .categories) ++ joined (map rangeFields gs)) ≡ width (map (field 9) (g .categories)) + width (joined (map rangeFields gs)) = width-append (map (field 9) (g .categories)) (joined (map rangeFields gs)) in
-    let b : width (map (field 9) (g .categories)) ≡ length (g .categories) * 9 = width-map 9 (g .categories) in
+    let a : width (map (field numberWidth) (g .categories) ++ joined (map rangeFields gs)) ≡ width (map (field numberWidth) (g .categories)) + width (joined (map rangeFields gs)) = width-append (map (field numberWidth) (g .categories)) (joined (map rangeFields gs)) in
+    let b : width (map (field numberWidth) (g .categories)) ≡ length (g .categories) * numberWidth = width-map numberWidth (g .categories) in
     omega arith
 
 pub packBits-length : (r : Reading)
-    → length (packBits r) ≡ 54 + (15 * length (r .names) + 8 * nameBytes (r .names)) + 34 * length (r .definitions) + (46 * length (r .ranges) + 9 * references (r .ranges))
+    → length (packBits r) ≡ headWidth + (nameLengthWidth * length (r .names) + byteWidth * nameBytes (r .names)) + definitionWidth * length (r .definitions)
+    + (rangeWidth * length (r .ranges) + numberWidth * references (r .ranges))
 unfolding packBits
 packBits-length r =
     let ns : List Field = joined (map nameFields (r .names)) in
@@ -101,7 +103,7 @@ packBits-length r =
     ∙ ap (λ k. width (head r) + k) (width-append ns (ds ++ gs) ∙ ap (λ k. width ns + k) (width-append ds gs))
     ∙ rw (names-width (r .names), definitions-width (r .definitions), ranges-width (r .ranges)) (omega arith)
 
-inBytes-length : (l : List ℕ) → length (inBytes l) ≡ (length l + 7) / 8
+inBytes-length : (l : List ℕ) → length (inBytes l) ≡ (length l + 7) / byteWidth
 unfolding inBytes
 inBytes-length [] = refl
 inBytes-length (a ∷ []) = refl
@@ -113,8 +115,8 @@ inBytes-length (a ∷ b ∷ c ∷ d ∷ e ∷ f ∷ []) = refl
 inBytes-length (a ∷ b ∷ c ∷ d ∷ e ∷ f ∷ g ∷ []) = refl
 inBytes-length (a ∷ b ∷ c ∷ d ∷ e ∷ f ∷ g ∷ h ∷ s) = let k = inBytes-length s in omega arith
 
-pub pack-length : (r : Reading) → Within r → length (packBytes r) ≤ 40519
+pub pack-length : (r : Reading) → Within r → length (packBytes r) ≤ maxPackBytes
 unfolding packBytes
 pack-length r w =
-    let b : length (packBits r) ≤ 324150 = rw packBits-length (omega arith) in
+    let b : length (packBits r) ≤ byteWidth * maxPackBytes = rw packBits-length (omega arith) in
     rw inBytes-length (omega arith)

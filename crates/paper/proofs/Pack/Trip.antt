@@ -11,11 +11,13 @@ use lib.Dec.{T, leb, ltb, eqb, eqb→eq, eqb-refl}
 use lib.ListN.{length, length-append}
 use mir.Facts.{and-yes, yes-and, leb-yes, yes-leb, ltb-yes, yes-ltb}
 use borrow.Author.Tests.{eqb-true, eqb-false}
+use Rattle.paper.specs.Sizes.{maxCategories, maxNameBytes, maxCategoryLines, maxRanges, maxReferences, maxPackBytes, maxU16, maxU32}
+use Rattle.paper.specs.Refusals.{packVersion, packRule, packLeftOver}
 use Rattle.paper.specs.Lists.{all, any, joined, same}
 use Rattle.paper.specs.Text.Scalar.{In, WellFormed, nothing, utf8-1, utf8-2, utf8-3-E0, utf8-3-E1, utf8-3-ED, utf8-3-EE, utf8-4-F0, utf8-4-F1, utf8-4-F4}
 use Rattle.paper.specs.Numbers.Bytes.{isByte}
 use Rattle.paper.specs.CharDef.Reading.{Definition, Range, Reading, nameBytes, references, Within, accepted}
-use Rattle.paper.specs.Pack.Fields.{Field, flag, field, nameFields, definitionFields, rangeFields, packFields, bits, packBits, inBytes, packBytes}
+use Rattle.paper.specs.Pack.Fields.{version, versionWidth, categoriesWidth, linesWidth, rangesWidth, referencesWidth, nameLengthWidth, byteWidth, flagWidth, lengthWidth, boundWidth, countWidth, numberWidth, Field, flag, field, nameFields, definitionFields, rangeFields, packFields, bits, spell, packBits, inBytes, packBytes}
 use Rattle.paper.specs.Pack.Rules.{numbered, hasBytes, onceAfter, isBound, bounded, sized, PackRules}
 use Rattle.paper.specs.Computed.ReadPack.{unpackBits, Taken, short, taken, takeNumber, takeBytes, Outcome, gave, broke, Reader, afterOutcome, _▹_, give, settle, fieldOr, number, free, bytesField, demand, isPadding, padding, many, lengthRule, nameRule, readName, readNames, readDefinition, countRule, readRange, readRanges, upTo, readBody, readCounted, readFields, readAll, answer, readPack}
 use Rattle.paper.specs.Computed.Rules.{formed}
@@ -24,7 +26,7 @@ use Rattle.paper.proofs.CharDef.Sound.{zero-one}
 use Rattle.paper.proofs.Pack.Size.{bits-length, fields-length, width-map, pack-length}
 use Rattle.paper.proofs.CharDef.Whole.{refused-accepted}
 use Rattle.paper.proofs.Pack.Rules.{formed-is, is-formed, each-all, all-each}
-use Rattle.paper.proofs.Pack.Bits.{isBit, spell, spell-append, spell-bits, unpack-bits, number-taken, taken-number, bytes-taken, taken-bytes, inBytes-unpack, unpack-inBytes, inBytes-pad, inBytes-bytes, unpack-length}
+use Rattle.paper.proofs.Pack.Bits.{isBit, spell-append, spell-bits, unpack-bits, number-taken, taken-number, bytes-taken, taken-bytes, inBytes-unpack, unpack-inBytes, inBytes-pad, inBytes-bytes, unpack-length}
 
 -- ---- a reader reads a value from its bits, whatever follows
 
@@ -61,16 +63,16 @@ reads-field m w ok n h t =
           ∙ ap (λ k. gave n (at + k) s) (sym (bits-length w n));
     }
 
-bytes-length : (bs : List ℕ) → length (spell (map (field 8) bs)) ≡ 8 * length bs
-bytes-length bs = fields-length (map (field 8) bs) ∙ width-map 8 bs ∙ omega arith
+bytes-length : (bs : List ℕ) → length (spell (map (field byteWidth) bs)) ≡ byteWidth * length bs
+bytes-length bs = fields-length (map (field byteWidth) bs) ∙ width-map byteWidth bs ∙ omega arith
 
-reads-bytes : (ok : List ℕ → Bool) (bs : List ℕ) → T (all isByte bs) → T (ok bs) → Reads (bytesField (length bs) ok) bs (spell (map (field 8) bs))
+reads-bytes : (ok : List ℕ → Bool) (bs : List ℕ) → T (all isByte bs) → T (ok bs) → Reads (bytesField (length bs) ok) bs (spell (map (field byteWidth) bs))
 unfolding bytesField
 reads-bytes ok bs h t =
     record {
       reads = λ at s.
-          let w : ℕ = 8 * length bs in
-          ap (settle 20 w at ok) (bytes-taken bs s h) ∙ ap (λ b. cond b (gave bs (at + w) s) (broke 20 at)) (T→true (ok bs) t)
+          let w : ℕ = byteWidth * length bs in
+          ap (settle packRule w at ok) (bytes-taken bs s h) ∙ ap (λ b. cond b (gave bs (at + w) s) (broke packRule at)) (T→true (ok bs) t)
           ∙ ap (λ k. gave bs (at + k) s) (sym (bytes-length bs));
     }
 
@@ -80,7 +82,7 @@ reads-demand b t =
     record {
       reads = λ at s.
           let e : at ≡ at + 0 = omega arith in
-          ap (λ b. cond b (gave tt at s) (broke 20 at)) (T→true b t) ∙ ap (λ m. gave tt m s) e;
+          ap (λ b. cond b (gave tt at s) (broke packRule at)) (T→true b t) ∙ ap (λ m. gave tt m s) e;
     }
 
 reads-many : {A : Type 0} (p : Reader A) (good : A → Bool) (w : A → List ℕ) → ((a : A) → T (good a) → Reads p a (w a))
@@ -140,12 +142,12 @@ field-part m w ok at s v to t b h = go (takeNumber w 0 s) refl h
     go (taken n u) d h = pass n u (ok n) refl d h
 
 bytes-part : (n : ℕ) (ok : List ℕ → Bool) (at : ℕ) (s v : List ℕ) (to : ℕ) (t : List ℕ) → T (all isBit s) → bytesField n ok at s ≡ gave v to t
-    → (length v ≡ n) × Part (ok v) (spell (map (field 8) v)) s t
+    → (length v ≡ n) × Part (ok v) (spell (map (field byteWidth) v)) s t
 unfolding bytesField
 bytes-part n ok at s v to t b h = go (takeBytes n s) refl h
   where
-    pass : (x u : List ℕ) (c : Bool) → ok x ≡ c → takeBytes n s ≡ taken x u → cond c (gave x (at + 8 * n) u) (broke 20 at) ≡ gave v to t
-        → (length v ≡ n) × Part (ok v) (spell (map (field 8) v)) s t
+    pass : (x u : List ℕ) (c : Bool) → ok x ≡ c → takeBytes n s ≡ taken x u → cond c (gave x (at + byteWidth * n) u) (broke packRule at) ≡ gave v to t
+        → (length v ≡ n) × Part (ok v) (spell (map (field byteWidth) v)) s t
     pass x u false e d h = broke-got h
     pass x u true e d h =
         let ev : x ≡ v = cc in
@@ -153,7 +155,7 @@ bytes-part n ok at s v to t b h = go (takeBytes n s) refl h
         let m = taken-bytes n s v t b (d ∙ ap₂ taken ev et) in
         (m .size, record { good = true→T (ok v) (ap ok (sym ev) ∙ e); whole = m .whole; left = m .left })
 
-    go : (o : Taken (List ℕ)) → takeBytes n s ≡ o → settle 20 (8 * n) at ok o ≡ gave v to t → (length v ≡ n) × Part (ok v) (spell (map (field 8) v)) s t
+    go : (o : Taken (List ℕ)) → takeBytes n s ≡ o → settle packRule (byteWidth * n) at ok o ≡ gave v to t → (length v ≡ n) × Part (ok v) (spell (map (field byteWidth) v)) s t
     go short d h = broke-got h
     go (taken x u) d h = pass x u (ok x) refl d h
 
@@ -226,15 +228,15 @@ long-some : (n : List ℕ) → 0 < length n → T (hasBytes n)
 long-some [] h = absurd (omega arith)
 long-some (x ∷ n) h = tt
 
-reads-name : (used : ℕ) (before : List (List ℕ)) (n : List ℕ) → T (hasBytes n) → used + length n ≤ 16384 → T (formed n) → T (not (any (same n) before))
+reads-name : (used : ℕ) (before : List (List ℕ)) (n : List ℕ) → T (hasBytes n) → used + length n ≤ maxNameBytes → T (formed n) → T (not (any (same n) before))
     → Reads (readName used before) n (spell (nameFields n))
 unfolding readName nameRule
 reads-name used before n long fits good new =
     reads-bind (λ m. bytesField m (nameRule before))
-    (reads-field 20 15 (lengthRule used) (length n) (omega arith) (yes-and (ltb 0 (length n)) (leb (used + length n) 16384) (yes-ltb (some-long n long)) (yes-leb fits)))
+    (reads-field packRule nameLengthWidth (lengthRule used) (length n) (omega arith) (yes-and (ltb 0 (length n)) (leb (used + length n) maxNameBytes) (yes-ltb (some-long n long)) (yes-leb fits)))
     (reads-bytes (nameRule before) n (formed-bytes (formed-is n good)) (yes-and (formed n) (not (any (same n) before)) good new))
 
-reads-names : (used : ℕ) (before ns : List (List ℕ)) → T (all hasBytes ns) → used + nameBytes ns ≤ 16384 → T (all formed ns) → T (onceAfter before ns)
+reads-names : (used : ℕ) (before ns : List (List ℕ)) → T (all hasBytes ns) → used + nameBytes ns ≤ maxNameBytes → T (all formed ns) → T (onceAfter before ns)
     → Reads (readNames (length ns) used before) ns (spell (joined (map nameFields ns)))
 unfolding readNames nameBytes
 reads-names used before [] long fits good new = reads-give []
@@ -248,7 +250,7 @@ reads-names used before (n ∷ ns) long fits good new =
 
 record NameRead (used : ℕ) (before : List (List ℕ)) (n s t : List ℕ) : Type 0 where
   long : T (hasBytes n)
-  fits : used + length n ≤ 16384
+  fits : used + length n ≤ maxNameBytes
   good : T (formed n)
   new : T (not (any (same n) before))
   whole : s ≡ spell (nameFields n) ++ t
@@ -258,27 +260,27 @@ name-read : (used : ℕ) (before : List (List ℕ)) (at : ℕ) (s n : List ℕ) 
     → readName used before at s ≡ gave n to t → NameRead used before n s t
 unfolding readName nameRule
 name-read used before at s n to t b h =
-    let x = split (number 15 (lengthRule used)) (λ m. bytesField m (nameRule before)) at s n to t h in
+    let x = split (number nameLengthWidth (lengthRule used)) (λ m. bytesField m (nameRule before)) at s n to t h in
     let m : ℕ = x .value in
-    let (lt, p) = field-part 20 15 (lengthRule used) at s m (x .place) (x .rest) b (x .first) in
+    let (lt, p) = field-part packRule nameLengthWidth (lengthRule used) at s m (x .place) (x .rest) b (x .first) in
     let (size, q) = bytes-part m (nameRule before) (x .place) (x .rest) n to t (p .left) (x .second) in
-    let r = and-yes (ltb 0 m) (leb (used + m) 16384) (p .good) in
+    let r = and-yes (ltb 0 m) (leb (used + m) maxNameBytes) (p .good) in
     let pos : 0 < m = ltb-yes (r .0) in
-    let top : used + m ≤ 16384 = leb-yes (r .1) in
+    let top : used + m ≤ maxNameBytes = leb-yes (r .1) in
     let g = and-yes (formed n) (not (any (same n) before)) (q .good) in
     record {
       long = long-some n (omega arith);
       fits = omega arith;
       good = g .0;
       new = g .1;
-      whole = p .whole ∙ ap₂ (λ k l. bits 15 k ++ l) (sym size) (q .whole);
+      whole = p .whole ∙ ap₂ (λ k l. bits nameLengthWidth k ++ l) (sym size) (q .whole);
       left = q .left;
     }
 
 record NamesRead (k used : ℕ) (before ns : List (List ℕ)) (s t : List ℕ) : Type 0 where
   count : length ns ≡ k
   long : T (all hasBytes ns)
-  fits : used + nameBytes ns ≤ 16384
+  fits : used + nameBytes ns ≤ maxNameBytes
   good : T (all formed ns)
   new : T (onceAfter before ns)
   whole : s ≡ spell (joined (map nameFields ns)) ++ t
@@ -288,7 +290,7 @@ names-made : (k used : ℕ) (before : List (List ℕ)) (n : List ℕ) (ns : List
     → NamesRead k (used + length n) (n ∷ before) ns u v → v ≡ t → NamesRead (suc k) used before (n ∷ ns) s t
 unfolding nameBytes
 names-made k used before n ns s u v t p q et =
-    let top : used + length n + nameBytes ns ≤ 16384 = q .fits in
+    let top : used + length n + nameBytes ns ≤ maxNameBytes = q .fits in
     record {
       count = ap suc (q .count);
       long = yes-and (hasBytes n) (all hasBytes ns) (p .long) (q .long);
@@ -301,7 +303,7 @@ names-made k used before n ns s u v t p q et =
       left = subst (λ l. T (all isBit l)) et (q .left);
     }
 
-names-read : (k used : ℕ) (before : List (List ℕ)) (at : ℕ) (s : List ℕ) (ns : List (List ℕ)) (to : ℕ) (t : List ℕ) → T (all isBit s) → used ≤ 16384
+names-read : (k used : ℕ) (before : List (List ℕ)) (at : ℕ) (s : List ℕ) (ns : List (List ℕ)) (to : ℕ) (t : List ℕ) → T (all isBit s) → used ≤ maxNameBytes
     → readNames k used before at s ≡ gave ns to t → NamesRead k used before ns s t
 unfolding readNames nameBytes
 names-read zero used before at s ns to t b u h =
@@ -345,17 +347,17 @@ reads-definition d t =
     let made : Definition = record { invoke = eqb i 1; group = eqb g 1; len = d .len } in
     let same-d : made ≡ d = ap₂ (λ a b. record { invoke = a; group = b; len = d .len }) (flag-one (d .invoke)) (flag-one (d .group)) in
     subst (λ e. Reads readDefinition e (spell (definitionFields d))) same-d
-    (reads-bind _ (reads-field 20 1 free i (flag-small (d .invoke)) tt)
-    (reads-bind _ (reads-field 20 1 free g (flag-small (d .group)) tt)
-    (reads-bind _ (reads-field 20 32 free (d .len) (ltb-yes t) tt) (reads-give made))))
+    (reads-bind _ (reads-field packRule flagWidth free i (flag-small (d .invoke)) tt)
+    (reads-bind _ (reads-field packRule flagWidth free g (flag-small (d .group)) tt)
+    (reads-bind _ (reads-field packRule lengthWidth free (d .len) (ltb-yes t) tt) (reads-give made))))
 
-definition-made : (i g l : ℕ) (s u v w t : List ℕ) → i < 2 → g < 2 → l < 2 ^ 32 → s ≡ bits 1 i ++ u → u ≡ bits 1 g ++ v → v ≡ bits 32 l ++ w → w ≡ t → T (all isBit w)
-    → Part (ltb l 0x1_0000_0000) (bits 1 (flag (eqb i 1)) ++ (bits 1 (flag (eqb g 1)) ++ (bits 32 l ++ []))) s t
+definition-made : (i g l : ℕ) (s u v w t : List ℕ) → i < 2 → g < 2 → l < 2 ^ lengthWidth → s ≡ bits flagWidth i ++ u → u ≡ bits flagWidth g ++ v → v ≡ bits lengthWidth l ++ w → w ≡ t → T (all isBit w)
+    → Part (ltb l (maxU32 + 1)) (bits flagWidth (flag (eqb i 1)) ++ (bits flagWidth (flag (eqb g 1)) ++ (bits lengthWidth l ++ []))) s t
 definition-made i g l s u v w t il gl ll es eu ev ew b =
     record {
       good = yes-ltb ll;
-      whole = es ∙ ap (λ k. bits 1 i ++ k) (eu ∙ ap (λ k. bits 1 g ++ k) (ev ∙ ap (λ k. bits 32 l ++ k) ew))
-          ∙ ap₂ (λ a b. bits 1 a ++ (bits 1 b ++ (bits 32 l ++ t))) (sym (one-flag i il)) (sym (one-flag g gl));
+      whole = es ∙ ap (λ k. bits flagWidth i ++ k) (eu ∙ ap (λ k. bits flagWidth g ++ k) (ev ∙ ap (λ k. bits lengthWidth l ++ k) ew))
+          ∙ ap₂ (λ a b. bits flagWidth a ++ (bits flagWidth b ++ (bits lengthWidth l ++ t))) (sym (one-flag i il)) (sym (one-flag g gl));
       left = subst (λ k. T (all isBit k)) ew b;
     }
 
@@ -363,45 +365,45 @@ definition-part : (at : ℕ) (s : List ℕ) (d : Definition) (to : ℕ) (t : Lis
     → Part (sized d) (spell (definitionFields d)) s t
 unfolding readDefinition
 definition-part at s d to t b h =
-    let x = split (number 1 free) _ at s d to t h in
-    let (il, ip) = field-part 20 1 free at s (x .value) (x .place) (x .rest) b (x .first) in
-    let y = split (number 1 free) _ (x .place) (x .rest) d to t (x .second) in
-    let (gl, gp) = field-part 20 1 free (x .place) (x .rest) (y .value) (y .place) (y .rest) (ip .left) (y .first) in
-    let z = split (number 32 free) _ (y .place) (y .rest) d to t (y .second) in
-    let (ll, lp) = field-part 20 32 free (y .place) (y .rest) (z .value) (z .place) (z .rest) (gp .left) (z .first) in
+    let x = split (number flagWidth free) _ at s d to t h in
+    let (il, ip) = field-part packRule flagWidth free at s (x .value) (x .place) (x .rest) b (x .first) in
+    let y = split (number flagWidth free) _ (x .place) (x .rest) d to t (x .second) in
+    let (gl, gp) = field-part packRule flagWidth free (x .place) (x .rest) (y .value) (y .place) (y .rest) (ip .left) (y .first) in
+    let z = split (number lengthWidth free) _ (y .place) (y .rest) d to t (y .second) in
+    let (ll, lp) = field-part packRule lengthWidth free (y .place) (y .rest) (z .value) (z .place) (z .rest) (gp .left) (z .first) in
     let (ed, et) = given (record { invoke = eqb (x .value) 1; group = eqb (y .value) 1; len = z .value }) (z .place) (z .rest) d to t (z .second) in
     subst (λ e. Part (sized e) (spell (definitionFields e)) s t) ed
     (definition-made (x .value) (y .value) (z .value) s (x .rest) (y .rest) (z .rest) t il gl ll (ip .whole) (gp .whole) (lp .whole) et (lp .left))
 
 -- ---- ranges
 
-pub bound-bits : (c : ℕ) → T (isBound c) → c < 2 ^ 16
+first-of-four : (a b c d : Bool) → T (a && b && c && d) → T a
+first-of-four a b c d t = and-yes a b (and-yes (a && b) c (and-yes (a && b && c) d t .0) .0) .0
+
+pub bound-bits : (c : ℕ) → T (isBound c) → c < 2 ^ boundWidth
 unfolding isBound
 bound-bits c t =
-    let a = and-yes (leb c 0xFFFF && not (Rattle.paper.specs.Text.Scalar.between 0xD800 0xDFFF c) && not (eqb c 0xFEFF)) (not (eqb c 0xFFFE)) t in
-    let b = and-yes (leb c 0xFFFF && not (Rattle.paper.specs.Text.Scalar.between 0xD800 0xDFFF c)) (not (eqb c 0xFEFF)) (a .0) in
-    let d = and-yes (leb c 0xFFFF) (not (Rattle.paper.specs.Text.Scalar.between 0xD800 0xDFFF c)) (b .0) in
-    let e : c ≤ 0xFFFF = leb-yes (d .0) in
+    let h : c ≤ maxU16 = leb-yes (first-of-four (leb c maxU16) _ _ _ t) in
     omega arith
 
 abbrev knows : ℕ → Range → Bool
 knows known g = all (λ c. ltb c known) (g .categories)
 
-reads-range : (known total used : ℕ) (g : Range) → known ≤ 512 → total ≤ 8192 → used + length (g .categories) ≤ total → T (bounded g) → T (knows known g)
+reads-range : (known total used : ℕ) (g : Range) → known ≤ maxCategories → total ≤ maxReferences → used + length (g .categories) ≤ total → T (bounded g) → T (knows known g)
     → Reads (readRange known total used) g (spell (rangeFields g))
 unfolding readRange bounded
 reads-range known total used g k8 t8 fits good ok =
     let b = and-yes (isBound (g .lower)) (isBound (g .upper)) good in
-    let short : length (g .categories) < 2 ^ 14 = omega arith in
-    reads-bind _ (reads-field 20 16 isBound (g .lower) (bound-bits (g .lower) (b .0)) (b .0))
-    (reads-bind _ (reads-field 20 16 isBound (g .upper) (bound-bits (g .upper) (b .1)) (b .1))
-    (reads-bind _ (reads-field 20 14 (countRule total used) (length (g .categories)) short (yes-leb fits))
+    let short : length (g .categories) < 2 ^ countWidth = omega arith in
+    reads-bind _ (reads-field packRule boundWidth isBound (g .lower) (bound-bits (g .lower) (b .0)) (b .0))
+    (reads-bind _ (reads-field packRule boundWidth isBound (g .upper) (bound-bits (g .upper) (b .1)) (b .1))
+    (reads-bind _ (reads-field packRule countWidth (countRule total used) (length (g .categories)) short (yes-leb fits))
     (reads-last (λ l. record { lower = g .lower; upper = g .upper; categories = l })
-    (subst (Reads (many (length (g .categories)) (number 9 (λ c. ltb c known))) (g .categories)) (sym (spell-map 9 (g .categories)))
-    (reads-many (number 9 (λ c. ltb c known)) (λ c. ltb c known) (bits 9)
-    (λ c t. reads-field 20 9 (λ c. ltb c known) c (le-trans (ltb-yes t) k8) t) (g .categories) ok)))))
+    (subst (Reads (many (length (g .categories)) (number numberWidth (λ c. ltb c known))) (g .categories)) (sym (spell-map numberWidth (g .categories)))
+    (reads-many (number numberWidth (λ c. ltb c known)) (λ c. ltb c known) (bits numberWidth)
+    (λ c t. reads-field packRule numberWidth (λ c. ltb c known) c (le-trans (ltb-yes t) k8) t) (g .categories) ok)))))
 
-reads-ranges : (known total used : ℕ) (gs : List Range) → known ≤ 512 → total ≤ 8192 → used + references gs ≤ total → T (all bounded gs) → T (all (knows known) gs)
+reads-ranges : (known total used : ℕ) (gs : List Range) → known ≤ maxCategories → total ≤ maxReferences → used + references gs ≤ total → T (all bounded gs) → T (all (knows known) gs)
     → Reads (readRanges (length gs) known total used) gs (spell (joined (map rangeFields gs)))
 unfolding readRanges references
 reads-ranges known total used [] k8 t8 fits good ok = reads-give []
@@ -419,8 +421,8 @@ record RangeRead (known total used : ℕ) (g : Range) (s t : List ℕ) : Type 0 
   whole : s ≡ spell (rangeFields g) ++ t
   left : T (all isBit t)
 
-range-made : (known total used l u n : ℕ) (cs s a b c d t : List ℕ) → Part (isBound l) (bits 16 l) s a → Part (isBound u) (bits 16 u) a b
-    → Part (countRule total used n) (bits 14 n) b c → length cs ≡ n → Part (all (λ c. ltb c known) cs) (joined (map (bits 9) cs)) c d → d ≡ t
+range-made : (known total used l u n : ℕ) (cs s a b c d t : List ℕ) → Part (isBound l) (bits boundWidth l) s a → Part (isBound u) (bits boundWidth u) a b
+    → Part (countRule total used n) (bits countWidth n) b c → length cs ≡ n → Part (all (λ c. ltb c known) cs) (joined (map (bits numberWidth) cs)) c d → d ≡ t
     → (g : Range) → _≡_ {A = Range} (record { lower = l; upper = u; categories = cs }) g → RangeRead known total used g s t
 unfolding bounded
 range-made known total used l u n cs s a b c d t pl pu pn size pc ed g eg =
@@ -430,8 +432,8 @@ range-made known total used l u n cs s a b c d t pl pu pn size pc ed g eg =
       fits = omega arith;
       good = yes-and (isBound l) (isBound u) (pl .good) (pu .good);
       ok = pc .good;
-      whole = pl .whole ∙ ap (λ k. bits 16 l ++ k) (pu .whole ∙ ap (λ k. bits 16 u ++ k) (pn .whole ∙ ap₂ (λ m k. bits 14 m ++ k) (sym size)
-          (pc .whole ∙ ap₂ (λ m k. m ++ k) (sym (spell-map 9 cs)) ed)));
+      whole = pl .whole ∙ ap (λ k. bits boundWidth l ++ k) (pu .whole ∙ ap (λ k. bits boundWidth u ++ k) (pn .whole ∙ ap₂ (λ m k. bits countWidth m ++ k) (sym size)
+          (pc .whole ∙ ap₂ (λ m k. m ++ k) (sym (spell-map numberWidth cs)) ed)));
       left = subst (λ k. T (all isBit k)) ed (pc .left);
     })
 
@@ -439,15 +441,15 @@ range-read : (known total used at : ℕ) (s : List ℕ) (g : Range) (to : ℕ) (
     → readRange known total used at s ≡ gave g to t → RangeRead known total used g s t
 unfolding readRange
 range-read known total used at s g to t b h =
-    let x = split (number 16 isBound) _ at s g to t h in
-    let (xl, xp) = field-part 20 16 isBound at s (x .value) (x .place) (x .rest) b (x .first) in
-    let y = split (number 16 isBound) _ (x .place) (x .rest) g to t (x .second) in
-    let (yl, yp) = field-part 20 16 isBound (x .place) (x .rest) (y .value) (y .place) (y .rest) (xp .left) (y .first) in
-    let z = split (number 14 (countRule total used)) _ (y .place) (y .rest) g to t (y .second) in
-    let (zl, zp) = field-part 20 14 (countRule total used) (y .place) (y .rest) (z .value) (z .place) (z .rest) (yp .left) (z .first) in
-    let c = split (many (z .value) (number 9 (λ c. ltb c known))) _ (z .place) (z .rest) g to t (z .second) in
-    let (size, cp) = many-part (number 9 (λ c. ltb c known)) (λ c. ltb c known) (bits 9)
-    (λ at s v to t b h. field-part 20 9 (λ c. ltb c known) at s v to t b h .1) (z .value) (z .place) (z .rest) (c .value) (c .place) (c .rest) (zp .left) (c .first) in
+    let x = split (number boundWidth isBound) _ at s g to t h in
+    let (xl, xp) = field-part packRule boundWidth isBound at s (x .value) (x .place) (x .rest) b (x .first) in
+    let y = split (number boundWidth isBound) _ (x .place) (x .rest) g to t (x .second) in
+    let (yl, yp) = field-part packRule boundWidth isBound (x .place) (x .rest) (y .value) (y .place) (y .rest) (xp .left) (y .first) in
+    let z = split (number countWidth (countRule total used)) _ (y .place) (y .rest) g to t (y .second) in
+    let (zl, zp) = field-part packRule countWidth (countRule total used) (y .place) (y .rest) (z .value) (z .place) (z .rest) (yp .left) (z .first) in
+    let c = split (many (z .value) (number numberWidth (λ c. ltb c known))) _ (z .place) (z .rest) g to t (z .second) in
+    let (size, cp) = many-part (number numberWidth (λ c. ltb c known)) (λ c. ltb c known) (bits numberWidth)
+    (λ at s v to t b h. field-part packRule numberWidth (λ c. ltb c known) at s v to t b h .1) (z .value) (z .place) (z .rest) (c .value) (c .place) (c .rest) (zp .left) (c .first) in
     let (eg, et) = given (record { lower = x .value; upper = y .value; categories = c .value }) (c .place) (c .rest) g to t (c .second) in
     range-made known total used (x .value) (y .value) (z .value) (c .value) s (x .rest) (y .rest) (z .rest) (c .rest) t xp yp zp size cp et g eg
 
@@ -508,7 +510,7 @@ bodyBits r = namesBits r ++ (definitionsBits r ++ rangesBits r)
 reads-body : (r : Reading) → PackRules r → Reads (readBody (length (r .names)) (length (r .definitions)) (length (r .ranges)) (references (r .ranges))) r (bodyBits r)
 unfolding readBody numbered
 reads-body r k =
-    let n : 0 + nameBytes (r .names) ≤ 16384 = omega arith in
+    let n : 0 + nameBytes (r .names) ≤ maxNameBytes = omega arith in
     let t : 0 + references (r .ranges) ≤ references (r .ranges) = omega arith in
     reads-bind _ (reads-names 0 [] (r .names) (k .names-some) n (each-all WellFormed formed is-formed (r .names) (k .names-formed)) (k .names-once))
     (reads-bind _
@@ -523,7 +525,7 @@ record BodyRead (categories lines ranges total : ℕ) (r : Reading) (s t : List 
   definitions-are : length (r .definitions) ≡ lines
   ranges-are : length (r .ranges) ≡ ranges
   references-are : references (r .ranges) ≡ total
-  rules : categories ≤ 512 → lines ≤ 512 → ranges ≤ 2048 → total ≤ 8192 → PackRules r
+  rules : categories ≤ maxCategories → lines ≤ maxCategoryLines → ranges ≤ maxRanges → total ≤ maxReferences → PackRules r
   whole : s ≡ bodyBits r ++ t
   left : T (all isBit t)
 
@@ -535,7 +537,7 @@ unfolding numbered
 body-made categories lines ranges total ns ds gs s a b c v t n size d g e ev et r er =
     let ec : c ≡ t = ev ∙ et in
     let sum-is : references gs ≡ total = eqb→eq (references gs) total e in
-    let bytes : 0 + nameBytes ns ≤ 16384 = n .fits in
+    let bytes : 0 + nameBytes ns ≤ maxNameBytes = n .fits in
     let en : length ns ≡ categories = n .count in
     let eg : length gs ≡ ranges = g .count in
     subst (λ r. BodyRead categories lines ranges total r s t) er
@@ -592,7 +594,7 @@ body-bits r =
     spell-append ns (ds ++ gs) ∙ ap (λ l. spell ns ++ l) (spell-append ds gs)
 
 abbrev headBits : ℕ → ℕ → ℕ → ℕ → List ℕ → List ℕ
-headBits n d g t l = bits 8 1 ++ (bits 10 n ++ (bits 10 d ++ (bits 12 g ++ (bits 14 t ++ l))))
+headBits n d g t l = bits versionWidth version ++ (bits categoriesWidth n ++ (bits linesWidth d ++ (bits rangesWidth g ++ (bits referencesWidth t ++ l))))
 
 pack-bits : (r : Reading) → packBits r ≡ headBits (length (r .names)) (length (r .definitions)) (length (r .ranges)) (references (r .ranges)) (bodyBits r)
 unfolding packBits
@@ -607,23 +609,23 @@ reads-fields r k =
     let t : ℕ = references (r .ranges) in
     let w : Within r = k .limits in
     subst (Reads readFields r) (sym (pack-bits r))
-    (reads-bind _ (reads-field 18 8 (eqb 1) 1 (omega arith) tt)
-    (reads-bind _ (reads-field 20 10 (upTo 512) n (omega arith) (yes-leb (w .categories-fit)))
-    (reads-bind _ (reads-field 20 10 (upTo 512) d (omega arith) (yes-leb (w .definitions-fit)))
-    (reads-bind _ (reads-field 20 12 (upTo 2048) g (omega arith) (yes-leb (w .ranges-fit)))
-    (reads-bind _ (reads-field 20 14 (upTo 8192) t (omega arith) (yes-leb (w .references-fit)))
+    (reads-bind _ (reads-field packVersion versionWidth (eqb version) version (omega arith) tt)
+    (reads-bind _ (reads-field packRule categoriesWidth (upTo maxCategories) n (omega arith) (yes-leb (w .categories-fit)))
+    (reads-bind _ (reads-field packRule linesWidth (upTo maxCategoryLines) d (omega arith) (yes-leb (w .definitions-fit)))
+    (reads-bind _ (reads-field packRule rangesWidth (upTo maxRanges) g (omega arith) (yes-leb (w .ranges-fit)))
+    (reads-bind _ (reads-field packRule referencesWidth (upTo maxReferences) t (omega arith) (yes-leb (w .references-fit)))
     (reads-body r k))))))
 
 pub record FieldsRead (r : Reading) (s t : List ℕ) : Type 0 where
   pub rules : PackRules r
   pub whole : s ≡ packBits r ++ t
 
-fields-made : (v n d g q : ℕ) (r : Reading) (s a b c e f t : List ℕ) → Part (eqb 1 v) (bits 8 v) s a → Part (upTo 512 n) (bits 10 n) a b → Part (upTo 512 d) (bits 10 d) b c
-    → Part (upTo 2048 g) (bits 12 g) c e → Part (upTo 8192 q) (bits 14 q) e f → BodyRead n d g q r f t → FieldsRead r s t
+fields-made : (v n d g q : ℕ) (r : Reading) (s a b c e f t : List ℕ) → Part (eqb version v) (bits versionWidth v) s a → Part (upTo maxCategories n) (bits categoriesWidth n) a b → Part (upTo maxCategoryLines d) (bits linesWidth d) b c
+    → Part (upTo maxRanges g) (bits rangesWidth g) c e → Part (upTo maxReferences q) (bits referencesWidth q) e f → BodyRead n d g q r f t → FieldsRead r s t
 fields-made v n d g q r s a b c e f t pv pn pd pg pq body =
-    let ev : 1 ≡ v = eqb→eq 1 v (pv .good) in
+    let ev : version ≡ v = eqb→eq version v (pv .good) in
     let head-is : s ≡ headBits n d g q f =
-    pv .whole ∙ ap₂ (λ k l. bits 8 k ++ l) (sym ev) (pn .whole ∙ ap (λ l. bits 10 n ++ l) (pd .whole ∙ ap (λ l. bits 10 d ++ l) (pg .whole ∙ ap (λ l. bits 12 g ++ l) (pq .whole)))) in
+    pv .whole ∙ ap₂ (λ k l. bits versionWidth k ++ l) (sym ev) (pn .whole ∙ ap (λ l. bits categoriesWidth n ++ l) (pd .whole ∙ ap (λ l. bits linesWidth d ++ l) (pg .whole ∙ ap (λ l. bits rangesWidth g ++ l) (pq .whole)))) in
     record {
       rules = body .rules (leb-yes (pn .good)) (leb-yes (pd .good)) (leb-yes (pg .good)) (leb-yes (pq .good));
       whole = head-is ∙ ap (headBits n d g q) (body .whole) ∙ counts (bodyBits r ++ t) ∙ ap (λ l. l ++ t) (sym (pack-bits r));
@@ -635,16 +637,16 @@ fields-made v n d g q r s a b c e f t pv pn pd pg pq body =
 pub fields-read : (at : ℕ) (s : List ℕ) (r : Reading) (to : ℕ) (t : List ℕ) → T (all isBit s) → readFields at s ≡ gave r to t → FieldsRead r s t
 unfolding readFields readCounted
 fields-read at s r to t b h =
-    let v = split (fieldOr 18 8 (eqb 1)) _ at s r to t h in
-    let (vl, vp) = field-part 18 8 (eqb 1) at s (v .value) (v .place) (v .rest) b (v .first) in
-    let n = split (number 10 (upTo 512)) _ (v .place) (v .rest) r to t (v .second) in
-    let (nl, np) = field-part 20 10 (upTo 512) (v .place) (v .rest) (n .value) (n .place) (n .rest) (vp .left) (n .first) in
-    let d = split (number 10 (upTo 512)) _ (n .place) (n .rest) r to t (n .second) in
-    let (dl, dp) = field-part 20 10 (upTo 512) (n .place) (n .rest) (d .value) (d .place) (d .rest) (np .left) (d .first) in
-    let g = split (number 12 (upTo 2048)) _ (d .place) (d .rest) r to t (d .second) in
-    let (gl, gp) = field-part 20 12 (upTo 2048) (d .place) (d .rest) (g .value) (g .place) (g .rest) (dp .left) (g .first) in
-    let q = split (number 14 (upTo 8192)) (readBody (n .value) (d .value) (g .value)) (g .place) (g .rest) r to t (g .second) in
-    let (ql, qp) = field-part 20 14 (upTo 8192) (g .place) (g .rest) (q .value) (q .place) (q .rest) (gp .left) (q .first) in
+    let v = split (fieldOr packVersion versionWidth (eqb version)) _ at s r to t h in
+    let (vl, vp) = field-part packVersion versionWidth (eqb version) at s (v .value) (v .place) (v .rest) b (v .first) in
+    let n = split (number categoriesWidth (upTo maxCategories)) _ (v .place) (v .rest) r to t (v .second) in
+    let (nl, np) = field-part packRule categoriesWidth (upTo maxCategories) (v .place) (v .rest) (n .value) (n .place) (n .rest) (vp .left) (n .first) in
+    let d = split (number linesWidth (upTo maxCategoryLines)) _ (n .place) (n .rest) r to t (n .second) in
+    let (dl, dp) = field-part packRule linesWidth (upTo maxCategoryLines) (n .place) (n .rest) (d .value) (d .place) (d .rest) (np .left) (d .first) in
+    let g = split (number rangesWidth (upTo maxRanges)) _ (d .place) (d .rest) r to t (d .second) in
+    let (gl, gp) = field-part packRule rangesWidth (upTo maxRanges) (d .place) (d .rest) (g .value) (g .place) (g .rest) (dp .left) (g .first) in
+    let q = split (number referencesWidth (upTo maxReferences)) (readBody (n .value) (d .value) (g .value)) (g .place) (g .rest) r to t (g .second) in
+    let (ql, qp) = field-part packRule referencesWidth (upTo maxReferences) (g .place) (g .rest) (q .value) (q .place) (q .rest) (gp .left) (q .first) in
     let y = body-read (n .value) (d .value) (g .value) (q .value) (q .place) (q .rest) r to t (qp .left) (q .second) in
     fields-made (v .value) (n .value) (d .value) (g .value) (q .value) r s (v .rest) (n .rest) (d .rest) (g .rest) (q .rest) t vp np dp gp qp y
 
@@ -652,13 +654,13 @@ fields-read at s r to t b h =
 
 padding-of : (at : ℕ) (s : List ℕ) → T (isPadding s) → padding at s ≡ gave tt at []
 unfolding padding
-padding-of at s t = ap (λ b. cond b (gave tt at []) (broke 21 at)) (T→true (isPadding s) t)
+padding-of at s t = ap (λ b. cond b (gave tt at []) (broke packLeftOver at)) (T→true (isPadding s) t)
 
-padding-is : (at : ℕ) (s : List ℕ) (v : Unit {0}) (to : ℕ) (t : List ℕ) → padding at s ≡ gave v to t → T (isPadding s)
+pub padding-is : (at : ℕ) (s : List ℕ) (v : Unit {0}) (to : ℕ) (t : List ℕ) → padding at s ≡ gave v to t → T (isPadding s)
 unfolding padding
 padding-is at s v to t h = go (isPadding s) refl h
   where
-    go : (c : Bool) → isPadding s ≡ c → cond c (gave tt at []) (broke 21 at) ≡ gave v to t → T (isPadding s)
+    go : (c : Bool) → isPadding s ≡ c → cond c (gave tt at []) (broke packLeftOver at) ≡ gave v to t → T (isPadding s)
     go true e h = true→T (isPadding s) e
     go false e h = broke-got h
 
@@ -694,7 +696,7 @@ all-read p r to t e =
     let f = fields-read 0 (unpackBits p) r (x .place) (x .rest) (unpack-bits p) (x .first ∙ ap (λ v. gave v (x .place) (x .rest)) er) in
     record { rules = f .rules; pad = x .rest; zero-bits = padding-is (x .place) (x .rest) (y .value) (y .place) (y .rest) (y .first); whole = f .whole }
 
-answered : (o : Outcome Reading) (r : Reading) → answer o ≡ accepted r → (to : ℕ) × (t : List ℕ) × (o ≡ gave r to t)
+pub answered : (o : Outcome Reading) (r : Reading) → answer o ≡ accepted r → (to : ℕ) × (t : List ℕ) × (o ≡ gave r to t)
 answered (broke n at) r h = refused-accepted h
 answered (gave q to t) r h = let e : q ≡ r = cc in (to, t, ap (λ v. gave v to t) e)
 
@@ -711,15 +713,15 @@ pub read-write : (p : List ℕ) (r : Reading) → T (all isByte p) → readPack 
 unfolding packBytes
 read-write p r b h =
     let k = pack-is p r h in
-    let even : length (packBits r ++ k .pad) % 8 ≡ 0 = ap (λ l. length l % 8) (sym (k .whole)) ∙ unpack-length p in
+    let even : length (packBits r ++ k .pad) % byteWidth ≡ 0 = ap (λ l. length l % byteWidth) (sym (k .whole)) ∙ unpack-length p in
     sym (inBytes-pad (packBits r) (k .pad) (k .zero-bits) even) ∙ ap inBytes (sym (k .whole)) ∙ inBytes-unpack p b
 
 -- so two packs with the same reading are the same bytes
 pub packs-one : (p q : List ℕ) (r : Reading) → T (all isByte p) → T (all isByte q) → readPack p ≡ accepted r → readPack q ≡ accepted r → p ≡ q
 packs-one p q r bp bq hp hq = sym (read-write p r bp hp) ∙ read-write q r bq hq
 
-pub accepted-length : (p : List ℕ) (r : Reading) → T (all isByte p) → readPack p ≡ accepted r → length p ≤ 40519
-accepted-length p r b h = subst (λ l. length l ≤ 40519) (read-write p r b h) (pack-length r (read-rules p r h .limits))
+pub accepted-length : (p : List ℕ) (r : Reading) → T (all isByte p) → readPack p ≡ accepted r → length p ≤ maxPackBytes
+accepted-length p r b h = subst (λ l. length l ≤ maxPackBytes) (read-write p r b h) (pack-length r (read-rules p r h .limits))
 
 pub write-bytes : (r : Reading) → T (all isByte (packBytes r))
 unfolding packBytes packBits

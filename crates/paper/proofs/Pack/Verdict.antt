@@ -10,10 +10,12 @@ use mathlib.Core.List.{List, [], _∷_, _++_, append-assoc}
 use lib.Dec.{T, ltb, eqb, eqb→eq}
 use lib.ListN.{length, length-append}
 use mir.Facts.{and-yes, yes-and, T-not, not-T, ltb-yes, yes-ltb}
+use Rattle.paper.specs.Sizes.{maxCategories, maxCategoryLines, maxRanges, maxReferences}
+use Rattle.paper.specs.Refusals.{packVersion, packEnds, packRule, packLeftOver}
 use Rattle.paper.specs.Lists.{all}
 use Rattle.paper.specs.Numbers.Bytes.{isByte}
 use Rattle.paper.specs.CharDef.Reading.{Reading, references, Answer, accepted, refused}
-use Rattle.paper.specs.Pack.Fields.{bits, packBits}
+use Rattle.paper.specs.Pack.Fields.{version, versionWidth, categoriesWidth, linesWidth, rangesWidth, referencesWidth, nameLengthWidth, byteWidth, flagWidth, lengthWidth, boundWidth, countWidth, numberWidth, bits, packBits}
 use Rattle.paper.specs.Pack.Rules.{PackRules}
 use Rattle.paper.specs.Computed.ReadPack.{unpackBits, Taken, short, taken, takeNumber, consTaken, afterByte, takeBytes, Outcome, gave, broke, Reader, afterOutcome, _▹_, give, settle, fieldOr, number, bytesField, demand, isPadding, padding, many, lengthRule, nameRule, readName, readNames, readDefinition, readRange, readRanges, upTo, readBody, readCounted, readFields, readAll, answer, readPack}
 use Rattle.paper.proofs.Lists.Facts.{T→false}
@@ -30,12 +32,12 @@ pub record Orderly {A : Type 0} (S : ℕ → Bool) (p : Reader A) : Type 0 where
   pub moves : (at : ℕ) (s : List ℕ) (a : A) (to : ℕ) (t : List ℕ) → p at s ≡ gave a to t → (at ≤ to) × (to + length t ≡ at + length s)
   pub breaks : (at : ℕ) (s : List ℕ) (n m : ℕ) → p at s ≡ broke n m → T (S n) × (at ≤ m) × (m ≤ at + length s)
   pub goes : (at : ℕ) (s : List ℕ) (a : A) (to : ℕ) (t : List ℕ) → p at s ≡ gave a to t → (u : List ℕ) → p at (s ++ u) ≡ gave a to (t ++ u)
-  pub stops : (at : ℕ) (s : List ℕ) (n m : ℕ) → p at s ≡ broke n m → n ≢ 19 → (u : List ℕ) → p at (s ++ u) ≡ broke n m
+  pub stops : (at : ℕ) (s : List ℕ) (n m : ℕ) → p at s ≡ broke n m → n ≢ packEnds → (u : List ℕ) → p at (s ++ u) ≡ broke n m
 
-got-broke {ℓ} : {X : Type ℓ} {A : Type 0} {n at to : ℕ} {a : A} {t : List ℕ} → gave a to t ≡ broke n at → X
+pub got-broke {ℓ} : {X : Type ℓ} {A : Type 0} {n at to : ℕ} {a : A} {t : List ℕ} → gave a to t ≡ broke n at → X
 got-broke e = zero-one (cc)
 
-broke-same : {A : Type 0} (i j n m : ℕ) → _≡_ {A = Outcome A} (broke i j) (broke n m) → (i ≡ n) × (j ≡ m)
+pub broke-same : {A : Type 0} (i j n m : ℕ) → _≡_ {A = Outcome A} (broke i j) (broke n m) → (i ≡ n) × (j ≡ m)
 broke-same i j n m h = let e : i ≡ n = cc in let d : j ≡ m = cc in (e, d)
 
 orderly-bind : {A B : Type 0} (S : ℕ → Bool) (p : Reader A) (k : A → Reader B) → Orderly S p → ((a : A) → Orderly S (k a)) → Orderly S (p ▹ k)
@@ -66,7 +68,7 @@ orderly-bind {A} {B} S p k o f =
     goes at s b to t u (broke n m) e h = broke-got h
     goes at s b to t u (gave a m v) e h = ap (λ g. afterOutcome g k) (o .goes at s a m v e u) ∙ f a .goes m v b to t h u
 
-    stops : (at : ℕ) (s : List ℕ) (n m : ℕ) → n ≢ 19 → (u : List ℕ) (g : Outcome A) → p at s ≡ g → afterOutcome g k ≡ broke n m → afterOutcome (p at (s ++ u)) k ≡ broke n m
+    stops : (at : ℕ) (s : List ℕ) (n m : ℕ) → n ≢ packEnds → (u : List ℕ) (g : Outcome A) → p at s ≡ g → afterOutcome g k ≡ broke n m → afterOutcome (p at (s ++ u)) k ≡ broke n m
     stops at s n m d u (broke i j) e h = let (ei, ej) = broke-same i j n m h in ap (λ g. afterOutcome g k) (o .stops at s n m (e ∙ ap₂ broke ei ej) d u)
     stops at s n m d u (gave a j v) e h = ap (λ g. afterOutcome g k) (o .goes at s a j v e u) ∙ f a .stops j v n m h d u
 
@@ -89,7 +91,7 @@ orderly-give {A} S a =
 
 -- ---- fields
 
-settle-got : {A : Type 0} (n w at : ℕ) (ok : A → Bool) (o : Taken A) (a : A) (to : ℕ) (t : List ℕ) → settle n w at ok o ≡ gave a to t
+pub settle-got : {A : Type 0} (n w at : ℕ) (ok : A → Bool) (o : Taken A) (a : A) (to : ℕ) (t : List ℕ) → settle n w at ok o ≡ gave a to t
     → (o ≡ taken a t) × (ok a ≡ true) × (at + w ≡ to)
 unfolding settle
 settle-got n w at ok short a to t h = broke-got h
@@ -104,21 +106,21 @@ settle-got n w at ok (taken x v) a to t h = go (ok x) refl h
     go false e h = broke-got h
 
 -- too short, or the test fails
-settle-broke : {A : Type 0} (n w at : ℕ) (ok : A → Bool) (o : Taken A) (k m : ℕ) → settle n w at ok o ≡ broke k m
-    → (at ≡ m) × ((19 ≡ k) ⊎ ((a : A) × (t : List ℕ) × (o ≡ taken a t) × (ok a ≡ false) × (n ≡ k)))
+pub settle-broke : {A : Type 0} (n w at : ℕ) (ok : A → Bool) (o : Taken A) (k m : ℕ) → settle n w at ok o ≡ broke k m
+    → (at ≡ m) × (((o ≡ short) × (packEnds ≡ k)) ⊎ ((a : A) × (t : List ℕ) × (o ≡ taken a t) × (ok a ≡ false) × (n ≡ k)))
 unfolding settle
-settle-broke n w at ok short k m h = let ek : 19 ≡ k = cc in let em : at ≡ m = cc in (em, inl ek)
+settle-broke n w at ok short k m h = let ek : packEnds ≡ k = cc in let em : at ≡ m = cc in (em, inl (refl, ek))
 settle-broke {A} n w at ok (taken x v) k m h = go (ok x) refl h
   where
     go : (c : Bool) → ok x ≡ c → cond c (gave x (at + w) v) (broke n at) ≡ broke k m
-        → (at ≡ m) × ((19 ≡ k) ⊎ ((a : A) × (t : List ℕ) × (taken x v ≡ taken a t) × (ok a ≡ false) × (n ≡ k)))
+        → (at ≡ m) × (((taken x v ≡ short) × (packEnds ≡ k)) ⊎ ((a : A) × (t : List ℕ) × (taken x v ≡ taken a t) × (ok a ≡ false) × (n ≡ k)))
     go true e h = got-broke h
     go false e h = let ek : n ≡ k = cc in let em : at ≡ m = cc in (em, inr (x, v, refl, e, ek))
 
 module _ {A : Type 0} (S : ℕ → Bool) (n w : ℕ) (ok : A → Bool) (take : List ℕ → Taken A)
     (size : (s : List ℕ) (a : A) (t : List ℕ) → take s ≡ taken a t → length s ≡ w + length t)
     (more : (s : List ℕ) (a : A) (t : List ℕ) → take s ≡ taken a t → (u : List ℕ) → take (s ++ u) ≡ taken a (t ++ u))
-    (own : T (S n)) (ends : T (S 19)) where
+    (own : T (S n)) (ends : T (S packEnds)) where
   orderly-settle : Orderly S (λ at s. settle n w at ok (take s))
   unfolding settle
   orderly-settle = record { moves = moves; breaks = breaks; goes = goes; stops = stops }
@@ -134,8 +136,8 @@ module _ {A : Type 0} (S : ℕ → Bool) (n w : ℕ) (ok : A → Bool) (take : L
           let (e, o) = settle-broke n w at ok (take s) k m h in
           (which o, omega arith, omega arith)
         where
-          which : (19 ≡ k) ⊎ ((a : A) × (t : List ℕ) × (take s ≡ taken a t) × (ok a ≡ false) × (n ≡ k)) → T (S k)
-          which (inl e) = subst (λ k. T (S k)) e ends
+          which : ((take s ≡ short) × (packEnds ≡ k)) ⊎ ((a : A) × (t : List ℕ) × (take s ≡ taken a t) × (ok a ≡ false) × (n ≡ k)) → T (S k)
+          which (inl (z, e)) = subst (λ k. T (S k)) e ends
           which (inr (a, t, o, c, e)) = subst (λ k. T (S k)) e own
 
       goes : (at : ℕ) (s : List ℕ) (a : A) (to : ℕ) (t : List ℕ) → settle n w at ok (take s) ≡ gave a to t → (u : List ℕ) → settle n w at ok (take (s ++ u)) ≡ gave a to (t ++ u)
@@ -143,15 +145,15 @@ module _ {A : Type 0} (S : ℕ → Bool) (n w : ℕ) (ok : A → Bool) (take : L
           let (o, c, e) = settle-got n w at ok (take s) a to t h in
           ap (settle n w at ok) (more s a t o u) ∙ ap (λ b. cond b (gave a (at + w) (t ++ u)) (broke n at)) c ∙ ap (λ m. gave a m (t ++ u)) e
 
-      stops : (at : ℕ) (s : List ℕ) (k m : ℕ) → settle n w at ok (take s) ≡ broke k m → k ≢ 19 → (u : List ℕ) → settle n w at ok (take (s ++ u)) ≡ broke k m
+      stops : (at : ℕ) (s : List ℕ) (k m : ℕ) → settle n w at ok (take s) ≡ broke k m → k ≢ packEnds → (u : List ℕ) → settle n w at ok (take (s ++ u)) ≡ broke k m
       stops at s k m h d u = let (e, o) = settle-broke n w at ok (take s) k m h in which e o
         where
-          which : at ≡ m → (19 ≡ k) ⊎ ((a : A) × (t : List ℕ) × (take s ≡ taken a t) × (ok a ≡ false) × (n ≡ k)) → settle n w at ok (take (s ++ u)) ≡ broke k m
-          which em (inl e) = absurd (d (sym e))
+          which : at ≡ m → ((take s ≡ short) × (packEnds ≡ k)) ⊎ ((a : A) × (t : List ℕ) × (take s ≡ taken a t) × (ok a ≡ false) × (n ≡ k)) → settle n w at ok (take (s ++ u)) ≡ broke k m
+          which em (inl (z, e)) = absurd (d (sym e))
           which em (inr (a, t, o, c, e)) =
               ap (settle n w at ok) (more s a t o u) ∙ ap (λ b. cond b (gave a (at + w) (t ++ u)) (broke n at)) c ∙ ap₂ broke e em
 
-number-size : (w high : ℕ) (s : List ℕ) (v : ℕ) (t : List ℕ) → takeNumber w high s ≡ taken v t → length s ≡ w + length t
+pub number-size : (w high : ℕ) (s : List ℕ) (v : ℕ) (t : List ℕ) → takeNumber w high s ≡ taken v t → length s ≡ w + length t
 number-size zero high s v t h = let e : s ≡ t = cc in let l : length s ≡ length t = ap length e in omega arith
 number-size (suc w) high [] v t h = short-taken h
 number-size (suc w) high (x ∷ s) v t h = let k = number-size w (high * 2 + x) s v t h in omega arith
@@ -165,14 +167,14 @@ record Byte (n : ℕ) (s bs t : List ℕ) : Type 0 where
   first : ℕ
   rest : List ℕ
   left : List ℕ
-  one : takeNumber 8 0 s ≡ taken first left
+  one : takeNumber byteWidth 0 s ≡ taken first left
   others : takeBytes n left ≡ taken rest t
   whole : first ∷ rest ≡ bs
 
 byte-split : (n : ℕ) (s bs t : List ℕ) → takeBytes (suc n) s ≡ taken bs t → Byte n s bs t
-byte-split n s bs t h = go (takeNumber 8 0 s) refl h
+byte-split n s bs t h = go (takeNumber byteWidth 0 s) refl h
   where
-    go : (o : Taken ℕ) → takeNumber 8 0 s ≡ o → afterByte o (λ t. takeBytes n t) ≡ taken bs t → Byte n s bs t
+    go : (o : Taken ℕ) → takeNumber byteWidth 0 s ≡ o → afterByte o (λ t. takeBytes n t) ≡ taken bs t → Byte n s bs t
     go short e h = short-taken h
     go (taken x u) e h = rest (takeBytes n u) refl h
       where
@@ -183,11 +185,11 @@ byte-split n s bs t h = go (takeNumber 8 0 s) refl h
             let et : v ≡ t = cc in
             record { first = x; rest = cs; left = u; one = e; others = d ∙ ap (taken cs) et; whole = eb }
 
-bytes-size : (n : ℕ) (s bs t : List ℕ) → takeBytes n s ≡ taken bs t → length s ≡ 8 * n + length t
+pub bytes-size : (n : ℕ) (s bs t : List ℕ) → takeBytes n s ≡ taken bs t → length s ≡ byteWidth * n + length t
 bytes-size zero s bs t h = let e : s ≡ t = cc in let l : length s ≡ length t = ap length e in omega arith
 bytes-size (suc n) s bs t h =
     let b = byte-split n s bs t h in
-    let k = number-size 8 0 s (b .first) (b .left) (b .one) in
+    let k = number-size byteWidth 0 s (b .first) (b .left) (b .one) in
     let l = bytes-size n (b .left) (b .rest) t (b .others) in
     omega arith
 
@@ -195,7 +197,7 @@ bytes-more : (n : ℕ) (s bs t : List ℕ) → takeBytes n s ≡ taken bs t → 
 bytes-more zero s bs t h u = let eb : [] ≡ bs = cc in let et : s ≡ t = cc in cc
 bytes-more (suc n) s bs t h u =
     let b = byte-split n s bs t h in
-    ap (λ o. afterByte o (λ t. takeBytes n t)) (number-more 8 0 s (b .first) (b .left) (b .one) u)
+    ap (λ o. afterByte o (λ t. takeBytes n t)) (number-more byteWidth 0 s (b .first) (b .left) (b .one) u)
     ∙ ap (consTaken (b .first)) (bytes-more n (b .left) (b .rest) t (b .others) u)
     ∙ ap (λ l. taken l (t ++ u)) (b .whole)
 
@@ -203,19 +205,19 @@ bytes-more (suc n) s bs t h u =
 
 -- what a field behind the version breaks by
 abbrev pub late : ℕ → Bool
-late n = eqb n 19 || eqb n 20
+late n = eqb n packEnds || eqb n packRule
 
-orderly-field : (S : ℕ → Bool) (n w : ℕ) (ok : ℕ → Bool) → T (S n) → T (S 19) → Orderly S (fieldOr n w ok)
+orderly-field : (S : ℕ → Bool) (n w : ℕ) (ok : ℕ → Bool) → T (S n) → T (S packEnds) → Orderly S (fieldOr n w ok)
 unfolding fieldOr
 orderly-field S n w ok own ends =
     orderly-settle S n w ok (takeNumber w 0) (λ s v t h. number-size w 0 s v t h) (λ s v t h u. number-more w 0 s v t h u) own ends
 
 orderly-number : (w : ℕ) (ok : ℕ → Bool) → Orderly late (number w ok)
-orderly-number w ok = orderly-field late 20 w ok tt tt
+orderly-number w ok = orderly-field late packRule w ok tt tt
 
 orderly-bytes : (n : ℕ) (ok : List ℕ → Bool) → Orderly late (bytesField n ok)
 unfolding bytesField
-orderly-bytes n ok = orderly-settle late 20 (8 * n) ok (takeBytes n) (λ s v t h. bytes-size n s v t h) (λ s v t h u. bytes-more n s v t h u) tt tt
+orderly-bytes n ok = orderly-settle late packRule (byteWidth * n) ok (takeBytes n) (λ s v t h. bytes-size n s v t h) (λ s v t h u. bytes-more n s v t h u) tt tt
 
 orderly-demand : (b : Bool) → Orderly late (demand b)
 unfolding demand
@@ -238,7 +240,7 @@ orderly-demand b =
     breaks : (b : Bool) (at : ℕ) (s : List ℕ) (n m : ℕ) → demand b at s ≡ broke n m → T (late n) × (at ≤ m) × (m ≤ at + length s)
     breaks true at s n m h = got-broke h
     breaks false at s n m h =
-        let en : 20 ≡ n = cc in
+        let en : packRule ≡ n = cc in
         let em : at ≡ m = cc in
         (subst (λ k. T (late k)) en tt, omega arith, omega arith)
 
@@ -258,7 +260,7 @@ orderly-many (suc n) p o = orderly-bind late p _ o (λ x. orderly-bind late (man
 
 orderly-name : (used : ℕ) (before : List (List ℕ)) → Orderly late (readName used before)
 unfolding readName
-orderly-name used before = orderly-bind late _ _ (orderly-number 15 (lengthRule used)) (λ n. orderly-bytes n (nameRule before))
+orderly-name used before = orderly-bind late _ _ (orderly-number nameLengthWidth (lengthRule used)) (λ n. orderly-bytes n (nameRule before))
 
 orderly-names : (k used : ℕ) (before : List (List ℕ)) → Orderly late (readNames k used before)
 unfolding readNames
@@ -270,15 +272,15 @@ orderly-names (suc k) used before =
 orderly-definition : Orderly late readDefinition
 unfolding readDefinition
 orderly-definition =
-    orderly-bind late _ _ (orderly-number 1 _) (λ i. orderly-bind late _ _ (orderly-number 1 _) (λ g. orderly-bind late _ _ (orderly-number 32 _) (λ l. orderly-give late _)))
+    orderly-bind late _ _ (orderly-number flagWidth _) (λ i. orderly-bind late _ _ (orderly-number flagWidth _) (λ g. orderly-bind late _ _ (orderly-number lengthWidth _) (λ l. orderly-give late _)))
 
 orderly-range : (known total used : ℕ) → Orderly late (readRange known total used)
 unfolding readRange
 orderly-range known total used =
-    orderly-bind late _ _ (orderly-number 16 _)
-    (λ l. orderly-bind late _ _ (orderly-number 16 _)
-    (λ u. orderly-bind late _ _ (orderly-number 14 _)
-    (λ n. orderly-bind late _ _ (orderly-many n _ (orderly-number 9 _)) (λ cs. orderly-give late _))))
+    orderly-bind late _ _ (orderly-number boundWidth _)
+    (λ l. orderly-bind late _ _ (orderly-number boundWidth _)
+    (λ u. orderly-bind late _ _ (orderly-number countWidth _)
+    (λ n. orderly-bind late _ _ (orderly-many n _ (orderly-number numberWidth _)) (λ cs. orderly-give late _))))
 
 orderly-ranges : (k known total used : ℕ) → Orderly late (readRanges k known total used)
 unfolding readRanges
@@ -298,16 +300,16 @@ orderly-body categories lines ranges total =
 orderly-counted : Orderly late readCounted
 unfolding readCounted
 orderly-counted =
-    orderly-bind late _ _ (orderly-number 10 (upTo 512))
-    (λ n. orderly-bind late _ _ (orderly-number 10 (upTo 512))
-    (λ d. orderly-bind late _ _ (orderly-number 12 (upTo 2048)) (λ g. orderly-bind late _ _ (orderly-number 14 (upTo 8192)) (λ t. orderly-body n d g t))))
+    orderly-bind late _ _ (orderly-number categoriesWidth (upTo maxCategories))
+    (λ n. orderly-bind late _ _ (orderly-number linesWidth (upTo maxCategoryLines))
+    (λ d. orderly-bind late _ _ (orderly-number rangesWidth (upTo maxRanges)) (λ g. orderly-bind late _ _ (orderly-number referencesWidth (upTo maxReferences)) (λ t. orderly-body n d g t))))
 
 -- with the version
 abbrev pub early : ℕ → Bool
-early n = eqb n 18 || late n
+early n = eqb n packVersion || late n
 
 late-early : (n : ℕ) → T (late n) → T (early n)
-late-early n t = go (eqb n 18)
+late-early n t = go (eqb n packVersion)
   where
     go : (b : Bool) → T (b || late n)
     go true = tt
@@ -315,7 +317,7 @@ late-early n t = go (eqb n 18)
 
 orderly-fields : Orderly early readFields
 unfolding readFields
-orderly-fields = orderly-bind early _ _ (orderly-field early 18 8 (eqb 1) tt tt) (λ v. counted)
+orderly-fields = orderly-bind early _ _ (orderly-field early packVersion versionWidth (eqb version) tt tt) (λ v. counted)
   where
     o : Orderly late readCounted
     o = orderly-counted
@@ -325,133 +327,133 @@ orderly-fields = orderly-bind early _ _ (orderly-field early 18 8 (eqb 1) tt tt)
 
 -- ---- the padding
 
-padding-broke : (at : ℕ) (s : List ℕ) (n m : ℕ) → padding at s ≡ broke n m → (isPadding s ≡ false) × (21 ≡ n) × (at ≡ m)
+padding-broke : (at : ℕ) (s : List ℕ) (n m : ℕ) → padding at s ≡ broke n m → (isPadding s ≡ false) × (packLeftOver ≡ n) × (at ≡ m)
 unfolding padding
 padding-broke at s n m h = go (isPadding s) refl h
   where
-    go : (b : Bool) → isPadding s ≡ b → _≡_ {A = Outcome (Unit {0})} (cond b (gave tt at []) (broke 21 at)) (broke n m) → (isPadding s ≡ false) × (21 ≡ n) × (at ≡ m)
+    go : (b : Bool) → isPadding s ≡ b → _≡_ {A = Outcome (Unit {0})} (cond b (gave tt at []) (broke packLeftOver at)) (broke n m) → (isPadding s ≡ false) × (packLeftOver ≡ n) × (at ≡ m)
     go true e h = got-broke h
-    go false e h = let en : 21 ≡ n = cc in let em : at ≡ m = cc in (e, en, em)
+    go false e h = let en : packLeftOver ≡ n = cc in let em : at ≡ m = cc in (e, en, em)
 
 -- a field is broken, or they all are read and what is left is no padding
-Broken : List ℕ → ℕ → ℕ → Type 0
-Broken s n at =
-    (readFields 0 s ≡ broke n at) ⊎ ((r : Reading) × (t : List ℕ) × (readFields 0 s ≡ gave r at t) × (isPadding t ≡ false) × (21 ≡ n))
+unfoldable pub Stopped : List ℕ → ℕ → ℕ → Type 0
+Stopped s n at =
+    (readFields 0 s ≡ broke n at) ⊎ ((r : Reading) × (t : List ℕ) × (readFields 0 s ≡ gave r at t) × (isPadding t ≡ false) × (packLeftOver ≡ n))
 
-all-broken : (s : List ℕ) (n at : ℕ) → readAll 0 s ≡ broke n at → Broken s n at
-unfolding readAll _▹_ give Broken
-all-broken s n at h = go (readFields 0 s) refl h
+all-stopped : (s : List ℕ) (n at : ℕ) → readAll 0 s ≡ broke n at → Stopped s n at
+unfolding readAll _▹_ give Stopped
+all-stopped s n at h = go (readFields 0 s) refl h
   where
-    pad : (r : Reading) (m : ℕ) (t : List ℕ) → readFields 0 s ≡ gave r m t → (o : Outcome (Unit {0})) → padding m t ≡ o → afterOutcome o (λ end. give r) ≡ broke n at → Broken s n at
+    pad : (r : Reading) (m : ℕ) (t : List ℕ) → readFields 0 s ≡ gave r m t → (o : Outcome (Unit {0})) → padding m t ≡ o → afterOutcome o (λ end. give r) ≡ broke n at → Stopped s n at
     pad r m t e (gave u to v) d h = got-broke h
     pad r m t e (broke i j) d h =
         let (ei, ej) = broke-same i j n at h in
         let (c, en, em) = padding-broke m t i j d in
         inr (r, t, e ∙ ap (λ m. gave r m t) (em ∙ ej), c, en ∙ ei)
 
-    go : (o : Outcome Reading) → readFields 0 s ≡ o → afterOutcome o (λ r. padding ▹ (λ end. give r)) ≡ broke n at → Broken s n at
+    go : (o : Outcome Reading) → readFields 0 s ≡ o → afterOutcome o (λ r. padding ▹ (λ end. give r)) ≡ broke n at → Stopped s n at
     go (broke i j) e h = inl (e ∙ h)
     go (gave r m t) e h = pad r m t e (padding m t) refl h
 
-broken-all : (s : List ℕ) (n at : ℕ) → Broken s n at → readAll 0 s ≡ broke n at
-unfolding readAll _▹_ give Broken padding
-broken-all s n at (inl e) = ap (λ o. afterOutcome o (λ r. padding ▹ (λ end. give r))) e
-broken-all s n at (inr (r, t, e, c, en)) =
+stopped-all : (s : List ℕ) (n at : ℕ) → Stopped s n at → readAll 0 s ≡ broke n at
+unfolding readAll _▹_ give Stopped padding
+stopped-all s n at (inl e) = ap (λ o. afterOutcome o (λ r. padding ▹ (λ end. give r))) e
+stopped-all s n at (inr (r, t, e, c, en)) =
     ap (λ o. afterOutcome o (λ r. padding ▹ (λ end. give r))) e
-    ∙ ap (λ b. afterOutcome (cond b (gave tt at []) (broke 21 at)) (λ end. give r)) c
+    ∙ ap (λ b. afterOutcome (cond b (gave tt at []) (broke packLeftOver at)) (λ end. give r)) c
     ∙ ap (λ n. broke n at) en
 
 answer-refused : (o : Outcome Reading) (n at : ℕ) → answer o ≡ refused n at → o ≡ broke n at
 answer-refused (gave r to t) n at h = refused-accepted (sym h)
 answer-refused (broke i j) n at h = let e : i ≡ n = cc in let d : j ≡ at = cc in cc
 
-broken-of : (p : List ℕ) (n at : ℕ) → readPack p ≡ refused n at → Broken (unpackBits p) n at
+pub stopped-of : (p : List ℕ) (n at : ℕ) → readPack p ≡ refused n at → Stopped (unpackBits p) n at
 unfolding readPack
-broken-of p n at h = all-broken (unpackBits p) n at (answer-refused (readAll 0 (unpackBits p)) n at h)
+stopped-of p n at h = all-stopped (unpackBits p) n at (answer-refused (readAll 0 (unpackBits p)) n at h)
 
-of-broken : (p : List ℕ) (n at : ℕ) → Broken (unpackBits p) n at → readPack p ≡ refused n at
+of-stopped : (p : List ℕ) (n at : ℕ) → Stopped (unpackBits p) n at → readPack p ≡ refused n at
 unfolding readPack
-of-broken p n at h = ap answer (broken-all (unpackBits p) n at h)
+of-stopped p n at h = ap answer (stopped-all (unpackBits p) n at h)
 
 -- ---- the verdicts
 
-pub nothing-19 : readPack [] ≡ refused 19 0
+pub nothing-19 : readPack [] ≡ refused packEnds 0
 unfolding readPack
 nothing-19 = refl
 
 unpack-append : (p q : List ℕ) → unpackBits (p ++ q) ≡ unpackBits p ++ unpackBits q
 unpack-append [] q = refl
-unpack-append (b ∷ p) q = ap (λ l. bits 8 b ++ l) (unpack-append p q)
+unpack-append (b ∷ p) q = ap (λ l. bits byteWidth b ++ l) (unpack-append p q)
 
-unpack-size : (p : List ℕ) → length (unpackBits p) ≡ 8 * length p
+unpack-size : (p : List ℕ) → length (unpackBits p) ≡ byteWidth * length p
 unpack-size [] = refl
 unpack-size (b ∷ p) = let h = unpack-size p in omega arith
 
 -- the numbers are 18 to 21, and the place is in the pack or at its end
-pub refused-numbers : (p : List ℕ) (n at : ℕ) → readPack p ≡ refused n at → T (early n || eqb n 21) × (at ≤ 8 * length p)
-unfolding Broken
-refused-numbers p n at h = go (broken-of p n at h)
+pub refused-numbers : (p : List ℕ) (n at : ℕ) → readPack p ≡ refused n at → T (early n || eqb n packLeftOver) × (at ≤ byteWidth * length p)
+unfolding Stopped
+refused-numbers p n at h = go (stopped-of p n at h)
   where
     left : (a b : Bool) → T a → T (a || b)
     left true b t = tt
     left false b t = absurd t
 
-    go : Broken (unpackBits p) n at → T (early n || eqb n 21) × (at ≤ 8 * length p)
+    go : Stopped (unpackBits p) n at → T (early n || eqb n packLeftOver) × (at ≤ byteWidth * length p)
     go (inl e) =
         let (t, i, j) = orderly-fields .breaks 0 (unpackBits p) n at e in
         let k = unpack-size p in
-        (left (early n) (eqb n 21) t, omega arith)
+        (left (early n) (eqb n packLeftOver) t, omega arith)
     go (inr (r, t, e, c, en)) =
         let (i, j) = orderly-fields .moves 0 (unpackBits p) r at t e in
         let k = unpack-size p in
-        (subst (λ n. T (early n || eqb n 21)) en tt, omega arith)
+        (subst (λ n. T (early n || eqb n packLeftOver)) en tt, omega arith)
 
 -- 18 exactly when there is a first byte and it is not 1
-pub refused-18 : (p : List ℕ) (at : ℕ) → T (all isByte p) → (readPack p ≡ refused 18 at) ↔ ((at ≡ 0) × (b : ℕ) × (q : List ℕ) × (p ≡ b ∷ q) × (b ≢ 1))
-unfolding Broken readFields _▹_ fieldOr
-refused-18 p at bytes = (λ h. only (broken-of p 18 at h), λ (e, b, q, ep, d). given e b q ep d)
+pub refused-18 : (p : List ℕ) (at : ℕ) → T (all isByte p) → (readPack p ≡ refused packVersion at) ↔ ((at ≡ 0) × (b : ℕ) × (q : List ℕ) × (p ≡ b ∷ q) × (b ≢ version))
+unfolding Stopped readFields _▹_ fieldOr
+refused-18 p at bytes = (λ h. only (stopped-of p packVersion at h), λ (e, b, q, ep, d). given e b q ep d)
   where
-    first : (b : ℕ) (q : List ℕ) → T (all isByte (b ∷ q)) → takeNumber 8 0 (unpackBits (b ∷ q)) ≡ taken b (unpackBits q)
-    first b q t = number-taken 8 b (unpackBits q) (ltb-yes (and-yes (isByte b) (all isByte q) t .0))
+    first : (b : ℕ) (q : List ℕ) → T (all isByte (b ∷ q)) → takeNumber byteWidth 0 (unpackBits (b ∷ q)) ≡ taken b (unpackBits q)
+    first b q t = number-taken byteWidth b (unpackBits q) (ltb-yes (and-yes (isByte b) (all isByte q) t .0))
 
-    byte : (q : List ℕ) → T (all isByte q) → (v : ℕ) (t : List ℕ) → takeNumber 8 0 (unpackBits q) ≡ taken v t → eqb 1 v ≡ false → (b : ℕ) × (l : List ℕ) × (q ≡ b ∷ l) × (b ≢ 1)
+    byte : (q : List ℕ) → T (all isByte q) → (v : ℕ) (t : List ℕ) → takeNumber byteWidth 0 (unpackBits q) ≡ taken v t → eqb version v ≡ false → (b : ℕ) × (l : List ℕ) × (q ≡ b ∷ l) × (b ≢ version)
     byte [] t v u h c = short-taken h
     byte (b ∷ l) t v u h c =
         let g = first b l t in
         let e : v ≡ b = cc in
-        (b, l, refl, λ d. T-not (eqb 1 v) (subst (λ k. T (eqb 1 k)) (sym (e ∙ d)) tt) (false→T _ c))
+        (b, l, refl, λ d. T-not (eqb version v) (subst (λ k. T (eqb version k)) (sym (e ∙ d)) tt) (false→T _ c))
 
-    field : (m : ℕ) → settle 18 8 0 (eqb 1) (takeNumber 8 0 (unpackBits p)) ≡ broke 18 m → (m ≡ 0) × (b : ℕ) × (q : List ℕ) × (p ≡ b ∷ q) × (b ≢ 1)
-    field m h = let (e, o) = settle-broke 18 8 0 (eqb 1) (takeNumber 8 0 (unpackBits p)) 18 m h in which e o
+    field : (m : ℕ) → settle packVersion versionWidth 0 (eqb version) (takeNumber byteWidth 0 (unpackBits p)) ≡ broke packVersion m → (m ≡ 0) × (b : ℕ) × (q : List ℕ) × (p ≡ b ∷ q) × (b ≢ version)
+    field m h = let (e, o) = settle-broke packVersion versionWidth 0 (eqb version) (takeNumber byteWidth 0 (unpackBits p)) packVersion m h in which e o
       where
-        which : 0 ≡ m → (_≡_ {A = ℕ} 19 18) ⊎ ((a : ℕ) × (t : List ℕ) × (takeNumber 8 0 (unpackBits p) ≡ taken a t) × (eqb 1 a ≡ false) × (_≡_ {A = ℕ} 18 18)) → (m ≡ 0) × (b : ℕ) × (q : List ℕ) × (p ≡ b ∷ q) × (b ≢ 1)
-        which e (inl z) = absurd (omega arith)
+        which : 0 ≡ m → ((takeNumber byteWidth 0 (unpackBits p) ≡ short) × (_≡_ {A = ℕ} packEnds packVersion)) ⊎ ((a : ℕ) × (t : List ℕ) × (takeNumber byteWidth 0 (unpackBits p) ≡ taken a t) × (eqb version a ≡ false) × (_≡_ {A = ℕ} packVersion packVersion)) → (m ≡ 0) × (b : ℕ) × (q : List ℕ) × (p ≡ b ∷ q) × (b ≢ version)
+        which e (inl (y, z)) = absurd (omega arith)
         which e (inr (a, t, o, c, z)) = let (b, q, ep, d) = byte p bytes a t o c in (sym e, b, q, ep, d)
 
-    fields : (o : Outcome ℕ) → settle 18 8 0 (eqb 1) (takeNumber 8 0 (unpackBits p)) ≡ o → afterOutcome o (λ v. readCounted) ≡ broke 18 at → (at ≡ 0) × (b : ℕ) × (q : List ℕ) × (p ≡ b ∷ q) × (b ≢ 1)
-    fields (broke i j) e h = let (ei, ej) = broke-same i j 18 at h in field at (e ∙ ap₂ broke ei ej)
-    fields (gave v m t) e h = absurd (orderly-counted .breaks m t 18 at h .0)
+    fields : (o : Outcome ℕ) → settle packVersion versionWidth 0 (eqb version) (takeNumber byteWidth 0 (unpackBits p)) ≡ o → afterOutcome o (λ v. readCounted) ≡ broke packVersion at → (at ≡ 0) × (b : ℕ) × (q : List ℕ) × (p ≡ b ∷ q) × (b ≢ version)
+    fields (broke i j) e h = let (ei, ej) = broke-same i j packVersion at h in field at (e ∙ ap₂ broke ei ej)
+    fields (gave v m t) e h = absurd (orderly-counted .breaks m t packVersion at h .0)
 
-    only : Broken (unpackBits p) 18 at → (at ≡ 0) × (b : ℕ) × (q : List ℕ) × (p ≡ b ∷ q) × (b ≢ 1)
-    only (inl e) = fields (settle 18 8 0 (eqb 1) (takeNumber 8 0 (unpackBits p))) refl e
+    only : Stopped (unpackBits p) packVersion at → (at ≡ 0) × (b : ℕ) × (q : List ℕ) × (p ≡ b ∷ q) × (b ≢ version)
+    only (inl e) = fields (settle packVersion versionWidth 0 (eqb version) (takeNumber byteWidth 0 (unpackBits p))) refl e
     only (inr (r, t, e, c, z)) = absurd (omega arith)
 
-    given : at ≡ 0 → (b : ℕ) (q : List ℕ) → p ≡ b ∷ q → b ≢ 1 → readPack p ≡ refused 18 at
+    given : at ≡ 0 → (b : ℕ) (q : List ℕ) → p ≡ b ∷ q → b ≢ version → readPack p ≡ refused packVersion at
     given e b q ep d =
         let t : T (all isByte (b ∷ q)) = subst (λ l. T (all isByte l)) ep bytes in
-        let c : eqb 1 b ≡ false = T→false (eqb 1 b) (not-T (eqb 1 b) (λ u. d (sym (eqb→eq 1 b u)))) in
-        ap readPack ep ∙ of-broken (b ∷ q) 18 0
-        (inl (ap (λ o. afterOutcome (settle 18 8 0 (eqb 1) o) (λ v. readCounted)) (first b q t) ∙ ap (λ x. afterOutcome (cond x (gave b (0 + 8) (unpackBits q)) (broke 18 0)) (λ v. readCounted)) c))
-        ∙ ap (refused 18) (sym e)
+        let c : eqb version b ≡ false = T→false (eqb version b) (not-T (eqb version b) (λ u. d (sym (eqb→eq version b u)))) in
+        ap readPack ep ∙ of-stopped (b ∷ q) packVersion 0
+        (inl (ap (λ o. afterOutcome (settle packVersion versionWidth 0 (eqb version) o) (λ v. readCounted)) (first b q t) ∙ ap (λ x. afterOutcome (cond x (gave b (0 + versionWidth) (unpackBits q)) (broke packVersion 0)) (λ v. readCounted)) c))
+        ∙ ap (refused packVersion) (sym e)
 
 -- 21 exactly when the fields of a reading stand there, keep the rules, and no padding stands behind them
-pub refused-21 : (p : List ℕ) (at : ℕ) → (readPack p ≡ refused 21 at)
+pub refused-21 : (p : List ℕ) (at : ℕ) → (readPack p ≡ refused packLeftOver at)
     ↔ ((r : Reading) × (s : List ℕ) × PackRules r × (unpackBits p ≡ packBits r ++ s) × T (not (isPadding s)) × (at ≡ length (packBits r)))
-unfolding Broken
-refused-21 p at = (λ h. only (broken-of p 21 at h), λ (r, s, k, w, n, e). given r s k w n e)
+unfolding Stopped
+refused-21 p at = (λ h. only (stopped-of p packLeftOver at h), λ (r, s, k, w, n, e). given r s k w n e)
   where
-    only : Broken (unpackBits p) 21 at → (r : Reading) × (s : List ℕ) × PackRules r × (unpackBits p ≡ packBits r ++ s) × T (not (isPadding s)) × (at ≡ length (packBits r))
-    only (inl e) = absurd (orderly-fields .breaks 0 (unpackBits p) 21 at e .0)
+    only : Stopped (unpackBits p) packLeftOver at → (r : Reading) × (s : List ℕ) × PackRules r × (unpackBits p ≡ packBits r ++ s) × T (not (isPadding s)) × (at ≡ length (packBits r))
+    only (inl e) = absurd (orderly-fields .breaks 0 (unpackBits p) packLeftOver at e .0)
     only (inr (r, t, e, c, z)) =
         let f = fields-read 0 (unpackBits p) r at t (unpack-bits p) e in
         let g = fields-of r t (f .rules) in
@@ -460,29 +462,29 @@ refused-21 p at = (λ h. only (broken-of p 21 at h), λ (r, s, k, w, n, e). give
         let em : at ≡ length (packBits r) = cc in
         (r, t, f .rules, w, false→T _ c, em)
 
-    given : (r : Reading) (s : List ℕ) → PackRules r → unpackBits p ≡ packBits r ++ s → T (not (isPadding s)) → at ≡ length (packBits r) → readPack p ≡ refused 21 at
+    given : (r : Reading) (s : List ℕ) → PackRules r → unpackBits p ≡ packBits r ++ s → T (not (isPadding s)) → at ≡ length (packBits r) → readPack p ≡ refused packLeftOver at
     given r s k w n e =
-        of-broken p 21 at (inr (r, s, ap (readFields 0) w ∙ fields-of r s k ∙ ap (λ m. gave r m s) (sym e), T→false (isPadding s) n, refl))
+        of-stopped p packLeftOver at (inr (r, s, ap (readFields 0) w ∙ fields-of r s k ∙ ap (λ m. gave r m s) (sym e), T→false (isPadding s) n, refl))
 
 padded-left : (s u : List ℕ) → T (isPadding (s ++ u)) → T (isPadding s)
 padded-left s u t =
-    let g = and-yes (ltb (length (s ++ u)) 8) (all (eqb 0) (s ++ u)) t in
-    let l : length (s ++ u) < 8 = ltb-yes (g .0) in
-    let k : length s < 8 = omega (arith, length-append s u) in
-    yes-and (ltb (length s) 8) (all (eqb 0) s) (yes-ltb k) (all-left (eqb 0) s u (g .1))
+    let g = and-yes (ltb (length (s ++ u)) byteWidth) (all (eqb 0) (s ++ u)) t in
+    let l : length (s ++ u) < byteWidth = ltb-yes (g .0) in
+    let k : length s < byteWidth = omega (arith, length-append s u) in
+    yes-and (ltb (length s) byteWidth) (all (eqb 0) s) (yes-ltb k) (all-left (eqb 0) s u (g .1))
 
 -- a refusal stands whatever follows, unless it is for want of bits
-pub refused-stays : (p q : List ℕ) (n at : ℕ) → n ≢ 19 → readPack p ≡ refused n at → readPack (p ++ q) ≡ refused n at
-unfolding Broken
-refused-stays p q n at d h = of-broken (p ++ q) n at (subst (λ l. Broken l n at) (sym (unpack-append p q)) (go (broken-of p n at h)))
+pub refused-stays : (p q : List ℕ) (n at : ℕ) → n ≢ packEnds → readPack p ≡ refused n at → readPack (p ++ q) ≡ refused n at
+unfolding Stopped
+refused-stays p q n at d h = of-stopped (p ++ q) n at (subst (λ l. Stopped l n at) (sym (unpack-append p q)) (go (stopped-of p n at h)))
   where
-    go : Broken (unpackBits p) n at → Broken (unpackBits p ++ unpackBits q) n at
+    go : Stopped (unpackBits p) n at → Stopped (unpackBits p ++ unpackBits q) n at
     go (inl e) = inl (orderly-fields .stops 0 (unpackBits p) n at e d (unpackBits q))
     go (inr (r, t, e, c, z)) =
         inr (r, t ++ unpackBits q, orderly-fields .goes 0 (unpackBits p) r at t e (unpackBits q), T→false (isPadding (t ++ unpackBits q)) (not-T (isPadding (t ++ unpackBits q)) (λ u. T-not (isPadding t) (padded-left t (unpackBits q) u) (false→T _ c))), z)
 
 -- an accepted pack with bytes left over
-pub accepted-more : (p q : List ℕ) (b : ℕ) (r : Reading) → readPack p ≡ accepted r → readPack (p ++ (b ∷ q)) ≡ refused 21 (length (packBits r))
+pub accepted-more : (p q : List ℕ) (b : ℕ) (r : Reading) → readPack p ≡ accepted r → readPack (p ++ (b ∷ q)) ≡ refused packLeftOver (length (packBits r))
 accepted-more p q b r h =
     let k = pack-is p r h in
     let w : unpackBits (p ++ (b ∷ q)) ≡ packBits r ++ (k .pad ++ unpackBits (b ∷ q)) =
@@ -492,17 +494,17 @@ accepted-more p q b r h =
     long : (pad : List ℕ) → T (not (isPadding (pad ++ unpackBits (b ∷ q))))
     long pad =
         not-T (isPadding (pad ++ unpackBits (b ∷ q)))
-        (λ t. let l : length (pad ++ unpackBits (b ∷ q)) < 8 = ltb-yes (and-yes (ltb (length (pad ++ unpackBits (b ∷ q))) 8) _ t .0) in
+        (λ t. let l : length (pad ++ unpackBits (b ∷ q)) < byteWidth = ltb-yes (and-yes (ltb (length (pad ++ unpackBits (b ∷ q))) byteWidth) _ t .0) in
         omega (arith, length-append pad (unpackBits (b ∷ q)), unpack-size (b ∷ q)))
 
 -- a pack cut short
-pub accepted-cut : (p q : List ℕ) (b : ℕ) (r : Reading) → readPack (p ++ (b ∷ q)) ≡ accepted r → (at : ℕ) × (readPack p ≡ refused 19 at)
+pub accepted-cut : (p q : List ℕ) (b : ℕ) (r : Reading) → readPack (p ++ (b ∷ q)) ≡ accepted r → (at : ℕ) × (readPack p ≡ refused packEnds at)
 accepted-cut p q b r h = go (readPack p) refl
   where
-    go : (o : Answer) → readPack p ≡ o → (at : ℕ) × (readPack p ≡ refused 19 at)
+    go : (o : Answer) → readPack p ≡ o → (at : ℕ) × (readPack p ≡ refused packEnds at)
     go (accepted s) e = refused-accepted (sym (accepted-more p q b s e) ∙ h)
     go (refused n at) e =
-        elim (ℕ-discrete n 19) [
+        elim (ℕ-discrete n packEnds) [
           | yes z ↦ (at, e ∙ ap (λ n. refused n at) z)
           | no d ↦ refused-accepted (sym (refused-stays p (b ∷ q) n at d e) ∙ h)
         ]

@@ -1,10 +1,11 @@
 -- What a reader leaves in lent room: the layout, and zero bytes up to the sizes. Assumes nothing.
-use Prim.Native.Nat.{ℕ, _-_, _≤_}
+use Prim.Native.Nat.{ℕ, _*_, _-_, _≤_}
 use native.Mathlib.Omega.{arith}
 use mathlib.Core.Path.{_≡_, refl, ap, _∙_}
 use mathlib.Core.List.{List, _++_, map}
 use mathlib.Core.Option.{some}
 use lib.ListN.{length, replicate, length-map}
+use Rattle.paper.specs.Sizes.{maxCategories, maxNameBytes, maxCategoryLines, maxRanges, maxReferences}
 use Rattle.paper.specs.Numbers.Bytes.{le}
 use Rattle.paper.specs.CharDef.Reading.{Reading, Within, nameBytes, references}
 use Rattle.paper.specs.Pack.Rules.{PackRules}
@@ -25,29 +26,29 @@ padded-is n l = refl
 zerosBehind : Tables → Tables
 zerosBehind t =
     record {
-      names = zeros 16384 (t .names);
-      categories = zeros 2048 (t .categories);
-      definitions = zeros 3072 (t .definitions);
-      ranges = zeros 16384 (t .ranges);
-      references = zeros 16384 (t .references);
+      names = zeros maxNameBytes (t .names);
+      categories = zeros (4 * maxCategories) (t .categories);
+      definitions = zeros (6 * maxCategoryLines) (t .definitions);
+      ranges = zeros (8 * maxRanges) (t .ranges);
+      references = zeros (2 * maxReferences) (t .references);
     }
 
 room-is : (t : Tables) → inRoom t ≡ behind t (zerosBehind t)
 unfolding inRoom behind zerosBehind
 room-is t =
-    tables-is (behind t (zerosBehind t)) _ _ _ _ _ (padded-is 16384 (t .names)) (padded-is 2048 (t .categories))
-    (padded-is 3072 (t .definitions)) (padded-is 16384 (t .ranges)) (padded-is 16384 (t .references))
+    tables-is (behind t (zerosBehind t)) _ _ _ _ _ (padded-is maxNameBytes (t .names)) (padded-is (4 * maxCategories) (t .categories))
+    (padded-is (6 * maxCategoryLines) (t .definitions)) (padded-is (8 * maxRanges) (t .ranges)) (padded-is (2 * maxReferences) (t .references))
 
 pub handed-room : (r : Reading) → PackRules r → handedIn (inRoom (layout r)) (countsOf r) ≡ some r
 handed-room r ok = ap (λ t. handedIn t (countsOf r)) (room-is (layout r)) ∙ handed-in r (zerosBehind (layout r)) ok
 
 -- the layout fits
 pub record Roomy (t : Tables) : Type 0 where
-  pub names : length (t .names) ≤ 16384
-  pub categories : length (t .categories) ≤ 2048
-  pub definitions : length (t .definitions) ≤ 3072
-  pub ranges : length (t .ranges) ≤ 16384
-  pub references : length (t .references) ≤ 16384
+  pub names : length (t .names) ≤ maxNameBytes
+  pub categories : length (t .categories) ≤ 4 * maxCategories
+  pub definitions : length (t .definitions) ≤ 6 * maxCategoryLines
+  pub ranges : length (t .ranges) ≤ 8 * maxRanges
+  pub references : length (t .references) ≤ 2 * maxReferences
 
 pub layout-fits : (r : Reading) → Within r → Roomy (layout r)
 unfolding layout nameBytes

@@ -10,6 +10,7 @@ use lib.ListN.{length, take, drop, getD, length-append, length-drop, length-map}
 use lib.Seq.{take-append-seam, drop-append-seam, take-add, length-take-le, drop-length}
 use mir.Facts.{and-yes, yes-and, leb-yes, yes-leb, ltb-yes, yes-ltb, eqb-yes, yes-eqb}
 use borrow.Author.Tests.{le-leb}
+use Rattle.paper.specs.Sizes.{maxCategories, maxNameBytes, maxCategoryLines, maxRanges, maxReferences, maxU16, maxU32}
 use Rattle.paper.specs.Lists.{all, empty, joined, sum}
 use Rattle.paper.specs.Text.Scalar.{WellFormed}
 use Rattle.paper.specs.Numbers.Bytes.{le, value, isByte}
@@ -58,11 +59,11 @@ module _ {A : Type 0} (w : ℕ) (f : A → List ℕ) (g : List ℕ → A) where
 -- ---- entries
 
 small : ℕ → Bool
-small n = ltb n 65536
+small n = ltb n (maxU16 + 1)
 
 two : (n : ℕ) → T (small n) → num 2 0 (le 2 n) ≡ n
 unfolding num small
-two n t = let h : n < 65536 = ltb-yes t in omega arith
+two n t = let h : n < maxU16 + 1 = ltb-yes t in omega arith
 
 smallPlace : NameSlot → Bool
 smallPlace p = small (p .start) && small (p .len)
@@ -70,17 +71,17 @@ smallPlace p = small (p .start) && small (p .len)
 place-there : (p : NameSlot) → T (smallPlace p) → nameSlotOf (nameSlotBytes p) ≡ p
 unfolding num small smallPlace
 place-there p t =
-    let h = and-yes (ltb (p .start) 65536) (ltb (p .len) 65536) t in
+    let h = and-yes (ltb (p .start) (maxU16 + 1)) (ltb (p .len) (maxU16 + 1)) t in
     ap₂ (λ a b. record { start = a; len = b }) (two (p .start) (h .0)) (two (p .len) (h .1))
 
 smallDefinition : Definition → Bool
-smallDefinition d = ltb (d .len) 4294967296
+smallDefinition d = ltb (d .len) (maxU32 + 1)
 
 flag-there : (b : Bool) → eqb (flag b) 1 ≡ b
 flag-there true = refl
 flag-there false = refl
 
-four : (n : ℕ) → n < 4294967296 → num 4 0 (le 4 n) ≡ n
+four : (n : ℕ) → n < maxU32 + 1 → num 4 0 (le 4 n) ≡ n
 unfolding num
 four n h = value-le 4 n h
 
@@ -190,11 +191,11 @@ unfolding nameSlots
 places-length at [] = refl
 places-length at (n ∷ ns) = ap suc (places-length (at + n) ns)
 
-places-small : (at : ℕ) (ns : List ℕ) → at + sum ns < 65536 → T (all smallPlace (nameSlots at ns))
+places-small : (at : ℕ) (ns : List ℕ) → at + sum ns < maxU16 + 1 → T (all smallPlace (nameSlots at ns))
 unfolding nameSlots small smallPlace
 places-small at [] h = tt
 places-small at (n ∷ ns) h =
-    yes-and (ltb at 65536 && ltb n 65536) _ (yes-and (ltb at 65536) (ltb n 65536) (is-lt at 65536 (omega arith)) (is-lt n 65536 (omega arith)))
+    yes-and (ltb at (maxU16 + 1) && ltb n (maxU16 + 1)) _ (yes-and (ltb at (maxU16 + 1)) (ltb n (maxU16 + 1)) (is-lt at (maxU16 + 1) (omega arith)) (is-lt n (maxU16 + 1) (omega arith)))
     (places-small (at + n) ns (omega arith))
 
 places-stand : (total at : ℕ) (xs : List (List ℕ)) → T (all (λ x. not (empty x)) xs) → at + sum (map length xs) ≡ total
@@ -243,13 +244,13 @@ bounded g = isBound (g .lower) && isBound (g .upper)
 
 bound-small : (a : ℕ) → T (isBound a) → T (small a)
 unfolding small
-bound-small a t = is-lt a 65536 (bound-bits a t)
+bound-small a t = is-lt a (maxU16 + 1) (bound-bits a t)
 
-less : (n : ℕ) → n < 65536 → T (small n)
+less : (n : ℕ) → n < maxU16 + 1 → T (small n)
 unfolding small
 less n h = yes-ltb h
 
-rows-small : (at : ℕ) (gs : List Range) → T (all bounded gs) → at + references gs < 65536 → T (all smallRow (rangeSlots at gs))
+rows-small : (at : ℕ) (gs : List Range) → T (all bounded gs) → at + references gs < maxU16 + 1 → T (all smallRow (rangeSlots at gs))
 unfolding rangeSlots smallRow bounded references
 rows-small at [] t h = tt
 rows-small at (g ∷ gs) t h =
@@ -338,13 +339,13 @@ room w f wide xs n rest e =
     let c : w * length xs ≡ w * n = ap (λ m. w * m) e in
     omega arith
 
-all-lt : (k : ℕ) (l : List ℕ) → k ≤ 65536 → T (all (λ c. ltb c k) l) → T (all small l)
+all-lt : (k : ℕ) (l : List ℕ) → k ≤ maxU16 + 1 → T (all (λ c. ltb c k) l) → T (all small l)
 unfolding small
 all-lt k [] h t = tt
 all-lt k (x ∷ l) h t =
     let i = and-yes (ltb x k) (all (λ c. ltb c k) l) t in
     let j : x < k = ltb-yes (i .0) in
-    yes-and (ltb x 65536) (all small l) (is-lt x 65536 (omega arith)) (all-lt k l h (i .1))
+    yes-and (ltb x (maxU16 + 1)) (all small l) (is-lt x (maxU16 + 1) (omega arith)) (all-lt k l h (i .1))
 
 pub joined-length : (xs : List (List ℕ)) → length (joined xs) ≡ sum (map length xs)
 joined-length [] = refl
@@ -356,7 +357,7 @@ record Kept (r : Reading) : Type 0 where
   some-byte : T (all (λ n. not (empty n)) (r .names))
   well : T (all formed (r .names))
   single : T (once (r .names))
-  lengths : T (all (λ d. ltb (d .len) 4294967296) (r .definitions))
+  lengths : T (all (λ d. ltb (d .len) (maxU32 + 1)) (r .definitions))
   bounds : T (all (λ g. isBound (g .lower) && isBound (g .upper)) (r .ranges))
   known : T (all (λ c. ltb c (length (r .names))) (numbersOf (r .ranges)))
 
@@ -408,7 +409,7 @@ module _ (r : Reading) (x : Tables) (ok : Kept r) where
   unfolding nameSlotsIn t n behind layout countsOf nameBytes
   places-in =
       let w = ok .within in
-      let h : sum (map length (r .names)) ≤ 16384 = w .names-fit in
+      let h : sum (map length (r .names)) ≤ maxNameBytes = w .names-fit in
       there 4 nameSlotBytes nameSlotOf wide-place smallPlace place-there (nameSlots 0 (map length (r .names))) (length (r .names)) (x .categories)
       (places-length 0 (map length (r .names)) ∙ length-map (r .names) length) (places-small 0 (map length (r .names)) (omega arith))
 
@@ -427,7 +428,7 @@ module _ (r : Reading) (x : Tables) (ok : Kept r) where
   unfolding slotsIn t n behind layout countsOf bounded
   rows-in =
       let w = ok .within in
-      let h : references (r .ranges) ≤ 8192 = w .references-fit in
+      let h : references (r .ranges) ≤ maxReferences = w .references-fit in
       there 8 slotBytes slotOf wide-row smallRow row-there (rangeSlots 0 (r .ranges)) (length (r .ranges)) (x .ranges)
       (rows-length 0 (r .ranges)) (rows-small 0 (r .ranges) (ok .bounds) (omega arith))
 
@@ -435,7 +436,7 @@ module _ (r : Reading) (x : Tables) (ok : Kept r) where
   unfolding numbersIn t n behind layout countsOf
   numbers-in =
       let w = ok .within in
-      let h : length (r .names) ≤ 512 = w .categories-fit in
+      let h : length (r .names) ≤ maxCategories = w .categories-fit in
       there 2 (le 2) (num 2 0) wide-number small two (numbersOf (r .ranges)) (references (r .ranges)) (x .references)
       (numbers-length (r .ranges)) (all-lt (length (r .names)) (numbersOf (r .ranges)) (omega arith) (ok .known))
 
@@ -504,7 +505,7 @@ pub record Bytes (t : Tables) : Type 0 where
   pub in-references : T (all isByte (t .references))
 
 pub record Enough (names categories definitions ranges references : ℕ) (n : Counts) : Type 0 where
-  pub limits : (n .categories ≤ 512) × ((n .bytes ≤ 16384) × ((n .definitions ≤ 512) × ((n .ranges ≤ 2048) × (n .references ≤ 8192))))
+  pub limits : (n .categories ≤ maxCategories) × ((n .bytes ≤ maxNameBytes) × ((n .definitions ≤ maxCategoryLines) × ((n .ranges ≤ maxRanges) × (n .references ≤ maxReferences))))
   pub for-names : n .bytes ≤ names
   pub for-categories : 4 * n .categories ≤ categories
   pub for-definitions : 6 * n .definitions ≤ definitions
@@ -514,11 +515,11 @@ pub record Enough (names categories definitions ranges references : ℕ) (n : Co
 pub says : (a b c d e : ℕ) (n : Counts) → T (enough a b c d e n) → Enough a b c d e n
 unfolding enough
 says a b c d e n t =
-    let t1 = and-yes (leb (n .categories) 512) _ t in
-    let t2 = and-yes (leb (n .bytes) 16384) _ (t1 .1) in
-    let t3 = and-yes (leb (n .definitions) 512) _ (t2 .1) in
-    let t4 = and-yes (leb (n .ranges) 2048) _ (t3 .1) in
-    let t5 = and-yes (leb (n .references) 8192) _ (t4 .1) in
+    let t1 = and-yes (leb (n .categories) maxCategories) _ t in
+    let t2 = and-yes (leb (n .bytes) maxNameBytes) _ (t1 .1) in
+    let t3 = and-yes (leb (n .definitions) maxCategoryLines) _ (t2 .1) in
+    let t4 = and-yes (leb (n .ranges) maxRanges) _ (t3 .1) in
+    let t5 = and-yes (leb (n .references) maxReferences) _ (t4 .1) in
     let t6 = and-yes (leb (n .bytes) a) _ (t5 .1) in
     let t7 = and-yes (leb (4 * n .categories) b) _ (t6 .1) in
     let t8 = and-yes (leb (6 * n .definitions) c) _ (t7 .1) in
@@ -580,7 +581,7 @@ unfolding countsOf
 count-names r n e = ap (λ m. m .categories) e
 
 within-from : (r : Reading) (n : Counts) → countsOf r ≡ n
-    → (n .categories ≤ 512) × ((n .bytes ≤ 16384) × ((n .definitions ≤ 512) × ((n .ranges ≤ 2048) × (n .references ≤ 8192)))) → Within r
+    → (n .categories ≤ maxCategories) × ((n .bytes ≤ maxNameBytes) × ((n .definitions ≤ maxCategoryLines) × ((n .ranges ≤ maxRanges) × (n .references ≤ maxReferences)))) → Within r
 unfolding countsOf
 within-from r n e k =
     let a : length (r .names) ≡ n .categories = ap (λ m. m .categories) e in
@@ -594,12 +595,12 @@ as-bounded : (gs : List Range) → T (all bounded gs) → T (all (λ g. isBound 
 unfolding bounded
 as-bounded gs t = t
 
-lengths-small : (n : ℕ) (l : List ℕ) → T (all isByte l) → T (all (λ d. ltb (d .len) 4294967296) (map definitionOf (pieces 6 n l)))
+lengths-small : (n : ℕ) (l : List ℕ) → T (all isByte l) → T (all (λ d. ltb (d .len) (maxU32 + 1)) (map definitionOf (pieces 6 n l)))
 unfolding pieces num
 lengths-small zero l t = tt
 lengths-small (suc n) l t =
-    yes-and (ltb (value (take 4 (take 6 l))) 4294967296) _
-    (is-lt (value (take 4 (take 6 l))) 4294967296 (value-small 4 (take 4 (take 6 l)) (all-take isByte 4 (take 6 l) (all-take isByte 6 l t)) (short 4 (take 6 l))))
+    yes-and (ltb (value (take 4 (take 6 l))) (maxU32 + 1)) _
+    (is-lt (value (take 4 (take 6 l))) (maxU32 + 1) (value-small 4 (take 4 (take 6 l)) (all-take isByte 4 (take 6 l) (all-take isByte 6 l t)) (short 4 (take 6 l))))
     (lengths-small n (drop 6 l) (all-drop isByte 6 l t))
 
 module _ (t : Tables) (n : Counts) (b : Bytes t) (h : Parts t n) where

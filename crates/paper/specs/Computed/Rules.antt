@@ -28,6 +28,7 @@ every [] = true
 every (b ∷ bs) = b && every bs
 
 unfoldable pub within : Reading → Bool
+unfolding nameBytes references
 within r =
     every
     (leb (length (r .names)) maxCategories

@@ -44,6 +44,16 @@ countWidth = 14
 abbrev pub numberWidth : ℕ
 numberWidth = 9
 
+-- of the head, of a definition, and of a range without its category numbers
+abbrev pub headWidth : ℕ
+headWidth = versionWidth + categoriesWidth + linesWidth + rangesWidth + referencesWidth
+
+abbrev pub definitionWidth : ℕ
+definitionWidth = flagWidth + flagWidth + lengthWidth
+
+abbrev pub rangeWidth : ℕ
+rangeWidth = boundWidth + boundWidth + countWidth
+
 abbrev pub version : ℕ
 version = 1
 
@@ -86,9 +96,22 @@ bits (suc w) n = n / 2 ^ w % 2 ∷ bits w n
 abbrev pub fieldBits : Field → List ℕ
 fieldBits f = bits (f .0) (f .1)
 
+-- the bits of fields, one field behind another
+abbrev pub spell : List Field → List ℕ
+spell fs = joined (map fieldBits fs)
+
 unfoldable pub packBits : Reading → List ℕ
 unfolding packFields
-packBits r = joined (map fieldBits (packFields r))
+packBits r = spell (packFields r)
+
+-- the bits of bytes, in order
+abbrev pub bitsOf : List ℕ → List ℕ
+bitsOf bytes = joined (map (bits byteWidth) bytes)
+
+-- n bytes as one field with the value v: the most significant first
+abbrev pub bytesOf : ℕ → ℕ → List ℕ
+bytesOf zero v = []
+bytesOf (suc n) v = v / 2 ^ (byteWidth * n) % 2 ^ byteWidth ∷ bytesOf n v
 
 abbrev pub byte : ℕ → ℕ → ℕ → ℕ → ℕ → ℕ → ℕ → ℕ → ℕ
 byte a b c d e f g h = a * 128 + b * 64 + c * 32 + d * 16 + e * 8 + f * 4 + g * 2 + h
