@@ -1,1 +1,3 @@
 pub mod Law
+pub mod Bad
+pub mod Refused

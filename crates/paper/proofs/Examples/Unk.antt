@@ -5,7 +5,8 @@ use Prim.Native.String.{String}
 use mathlib.Core.Path.{_≡_, refl}
 use mathlib.Core.List.{List, [], _∷_, _++_, map}
 use Rattle.paper.specs.Numbers.Numeral.{Integer, pos, neg, meaning16}
-use Rattle.paper.specs.Computed.ReadUnk.{UnkAnswer, accepted, refused, readUnk}
+use Rattle.paper.specs.Unk.Bad.{UnkAnswer, accepted, refused}
+use Rattle.paper.specs.Computed.ReadUnk.{readUnk}
 use Rattle.paper.proofs.Examples.CharDef.{Example, Holds, table, bytesOf}
 
 -- what is said of an unk.def with the categories A and B

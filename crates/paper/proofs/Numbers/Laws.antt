@@ -2,7 +2,7 @@
 -- Assumes nothing.
 use Prim.Native.Nat.{ℕ, _+_, _-_, _%_, _<_, _≤_}
 use native.Mathlib.Omega.{arith}
-use mathlib.Core.Path.{_≡_, refl, ap, _∙_}
+use mathlib.Core.Path.{_≡_, refl, sym, ap, _∙_}
 use mathlib.Core.Logic.{_↔_}
 use mathlib.Core.Bool.{Bool, true, false, not, cond}
 use mathlib.Core.Option.{Option, none, some}
@@ -29,6 +29,18 @@ spelled base limit ds n =
 -- with an optional `+`
 pub unsigned : (base limit : ℕ) → base ≤ 16 → (cs : List ℕ) (n : ℕ) → (numeral base limit cs ≡ some n) ↔ Numeral base limit cs n
 unsigned base limit b16 cs n = (numeral-sound base limit cs n, λ s. numeral-read base limit b16 s)
+
+none-number {ℓ} : {X : Type ℓ} {n : ℕ} → none ≡ some n → X
+none-number e = zero-one (cc)
+
+-- nothing is read exactly where there is no such numeral
+pub unsigned-none : (base limit : ℕ) → base ≤ 16 → (cs : List ℕ) → (numeral base limit cs ≡ none) ↔ ((n : ℕ) → Numeral base limit cs n → ⊥)
+unsigned-none base limit b16 cs =
+    (λ e n r. none-number (sym e ∙ unsigned base limit b16 cs n .1 r), λ never. go never (numeral base limit cs) refl)
+  where
+    go : ((n : ℕ) → Numeral base limit cs n → ⊥) → (o : Option ℕ) → numeral base limit cs ≡ o → numeral base limit cs ≡ none
+    go never none e = e
+    go never (some n) e = absurd (never n (unsigned base limit b16 cs n .0 e))
 
 none-integer {ℓ} : {X : Type ℓ} {i : Integer} → none ≡ some i → X
 none-integer e = zero-one (cc)
@@ -73,6 +85,13 @@ module _ (base top low : ℕ) (b16 : base ≤ 16) where
 
   pub signed : (cs : List ℕ) (i : Integer) → (signedNumeral base top low cs ≡ some i) ↔ SignedNumeral base top low cs i
   signed cs i = (signed-sound cs i, signed-complete cs i)
+
+  pub signed-none : (cs : List ℕ) → (signedNumeral base top low cs ≡ none) ↔ ((i : Integer) → SignedNumeral base top low cs i → ⊥)
+  signed-none cs = (λ e i r. none-integer (sym e ∙ signed-complete cs i r), λ never. go never (signedNumeral base top low cs) refl)
+    where
+      go : ((i : Integer) → SignedNumeral base top low cs i → ⊥) → (o : Option Integer) → signedNumeral base top low cs ≡ o → signedNumeral base top low cs ≡ none
+      go never none e = e
+      go never (some i) e = absurd (never i (signed-sound cs i e))
 
 -- two whole numbers differ by a multiple of 65,536
 abbrev pub Congruent : Integer → Integer → Type 0

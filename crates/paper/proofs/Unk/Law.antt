@@ -1,10 +1,10 @@
 -- unk.def: a text is accepted exactly with what fits it, a refusal names the first bad line, and 65,536 bytes of details are enough.
 -- Assumes nothing.
-use Prim.Native.Nat.{ℕ, zero, suc, _+_, _/_, _%_, _<_, _≤_, zero-le, suc-le-suc}
+use Prim.Native.Nat.{ℕ, zero, suc, _+_, _%_, _<_, _≤_, zero-le, suc-le-suc}
 use native.Mathlib.Nat.{le-refl, le-of-suc-le-suc, not-suc-le-zero}
 use native.Mathlib.Omega.{arith}
 use mathlib.Core.Path.{_≡_, refl, sym, ap, ap₂, _∙_, subst}
-use mathlib.Core.Logic.{_⊎_, inl, inr, _↔_}
+use mathlib.Core.Logic.{_↔_}
 use mathlib.Core.Bool.{Bool, true, false, not, cond, _&&_}
 use mathlib.Core.Option.{Option, none, some}
 use mathlib.Core.List.{List, [], _∷_, _++_, map, append-assoc, append-nil}
@@ -12,22 +12,21 @@ use lib.Dec.{T, leb, ltb, eqb, eqb→eq, lit≤, leb·zero, leb·suc-zero, leb·
 use lib.ListN.{length, take, drop, getD, length-append, length-map}
 use lib.Seq.{take-append-seam, drop-append-add, drop-drop}
 use mir.Facts.{and-yes, yes-and, ltb-no, no-ltb, leb-yes, yes-leb}
-use borrow.Author.Tests.{ltb-true, ltb-false, le-ltb, ne-eqb, eq-eqb}
+use borrow.Author.Tests.{ltb-false, le-ltb, ne-eqb, eq-eqb}
 use Rattle.paper.specs.Lists.{empty, all, any, full, joined, cut, push, same, sum, is, without, joinWith}
-use Rattle.paper.specs.Text.Scalar.{WellFormed, LongestPrefix}
 use Rattle.paper.specs.Numbers.Bytes.{le, value}
 use Rattle.paper.specs.Numbers.Numeral.{Numeral, Integer, pos, neg, SignedNumeral, wrap16}
 use Rattle.paper.specs.Unk.Entry.{endsCR, Lines, no-line, at-LF, at-CRLF, Entry, UnkLine, stored, offsetsFrom, entriesFrom, Unk, unkOf, EachUnk, done, next, UnkFits, detailsAt}
+use Rattle.paper.specs.Unk.Bad.{accepted, refused}
 use Rattle.paper.specs.Computed.Decode.{Text, broken, chars, decode}
 use Rattle.paper.specs.Computed.Numeral.{numeral, signedNumeral}
-use Rattle.paper.specs.Computed.ReadUnk.{dropCR, fromPieces, unkLines, UnkFound, entry, no-entry, fromUnkNumbers, fromFields, unkLineOf, Entries, entries-are, stops, consEntry, orFull, enterUnk, readEntries, UnkAnswer, accepted, refused, answerUnk, readUnkText, readUnk}
+use Rattle.paper.specs.Computed.ReadUnk.{dropCR, fromPieces, unkLines, UnkFound, entry, no-entry, fromUnkNumbers, fromFields, unkLineOf, Entries, entries-are, stops, consEntry, orFull, enterUnk, readEntries, answerUnk, readUnkText, readUnk}
 use Rattle.paper.proofs.Tables.Laws.{value-le}
 use Rattle.paper.proofs.Lists.Facts.{T→true, T→false, true→T, all-append, un, cut-run, pushAll, pushAll-first}
 use Rattle.paper.proofs.CharDef.Sound.{false→T, zero-one, all-left, Pieces, last, then, cut-pieces, numeral-sound}
 use Rattle.paper.proofs.CharDef.Complete.{le10, numeral-read}
 use Rattle.paper.proofs.Rows.Rising.{risingFrom}
 use Rattle.paper.proofs.Text.Code.{decode-complete, decode-sound}
-use Rattle.paper.proofs.CharDef.Answers.{well-formed, ill-read, prefix-of}
 use Rattle.paper.proofs.Numbers.Laws.{signed, wrap-below}
 
 -- ---- pieces and what is between them
@@ -179,36 +178,6 @@ unk-line-complete cs e u =
 pub unk-line : (cs : List ℕ) (e : Entry) → (unkLineOf cs ≡ entry e) ↔ UnkLine cs e
 unk-line cs e = (unk-line-sound cs e, unk-line-complete cs e)
 
--- ---- what is wrong with a line
-
-pub record Refuses (cs : List ℕ) (n : ℕ) : Type 0 where
-  -- 23 with under four fields, 24 with four or more
-  pub fields : ((n ≡ 23) × (length (cut (is 44) cs) < 4)) ⊎ ((n ≡ 24) × (4 ≤ length (cut (is 44) cs)))
-  -- and it says no entry
-  pub no-line-fits : (e : Entry) → UnkLine cs e → ⊥
-
-numbers-wrong : (a : List ℕ) (ds : List (List ℕ)) (n : ℕ) (x y : Option ℕ) (z : Option Integer) → fromUnkNumbers a x y z ds ≡ no-entry n → n ≡ 24
-numbers-wrong a ds n none y z h = cc
-numbers-wrong a ds n (some l) none z h = cc
-numbers-wrong a ds n (some l) (some r) none h = cc
-numbers-wrong a ds n (some l) (some r) (some i) h = no-entry-entry (sym h)
-
-pub unk-line-refused : (cs : List ℕ) (n : ℕ) → unkLineOf cs ≡ no-entry n → Refuses cs n
-unfolding unkLineOf fromFields
-unk-line-refused cs n h =
-    record { fields = go (cut (is 44) cs) h; no-line-fits = λ e u. no-entry-entry (sym h ∙ unk-line-complete cs e u) }
-  where
-    go : (fs : List (List ℕ)) → fromFields fs ≡ no-entry n → ((n ≡ 23) × (length fs < 4)) ⊎ ((n ≡ 24) × (4 ≤ length fs))
-    go [] h = inl (cc, lit≤ tt)
-    go (a ∷ []) h = inl (cc, lit≤ tt)
-    go (a ∷ b ∷ []) h = inl (cc, lit≤ tt)
-    go (a ∷ b ∷ c ∷ []) h = inl (cc, lit≤ tt)
-    go (a ∷ b ∷ c ∷ d ∷ ds) h =
-        inr (
-          numbers-wrong a ds n (numeral 10 0xFFFF_FFFF b) (numeral 10 0xFFFF_FFFF c) (signedNumeral 10 2147483647 2147483648 d) h,
-          suc-le-suc (suc-le-suc (suc-le-suc (suc-le-suc zero-le))),
-        )
-
 -- ---- all lines
 
 stops-entries {ℓ} : {X : Type ℓ} {n k : ℕ} {es : List Entry} → stops n k ≡ entries-are es → X
@@ -310,94 +279,6 @@ unk-fits-one names bytes u v f g =
     let e : readUnk names bytes ≡ accepted u = unk-fits-accepted names bytes u f in
     let d : readUnk names bytes ≡ accepted v = unk-fits-accepted names bytes v g in
     cc
-
--- ---- the line of a refusal
-
-pub record UnkStops (css : List (List ℕ)) (k n place : ℕ) : Type 0 where
-  pub pre : List (List ℕ)
-  pub bad : List ℕ
-  pub post : List (List ℕ)
-  pub whole : css ≡ pre ++ (bad ∷ post)
-  pub at : place ≡ k + length pre
-  -- the lines before it are entries
-  pub read : List Entry
-  pub before : EachUnk pre read
-  -- and it is refused by itself, or it is an entry and one too many
-  pub reason : (unkLineOf bad ≡ no-entry n) ⊎ ((n ≡ 25) × (place ≡ 4097) × ((e : Entry) × UnkLine bad e))
-
-entries-stop : (css : List (List ℕ)) (k n place : ℕ) → k ≤ 4097 → readEntries k css ≡ stops n place → UnkStops css k n place
-unfolding readEntries
-entries-stop [] k n place most h = stops-entries (sym h)
-entries-stop (cs ∷ css) k n place most h = found-case (unkLineOf cs) refl h (entries-stop css (suc k) n place)
-  where
-    Below : Type 0
-    Below = suc k ≤ 4097 → readEntries (suc k) css ≡ stops n place → UnkStops css (suc k) n place
-
-    rest-case : (e : Entry) → unkLineOf cs ≡ entry e → k ≤ 4096 → (o : Entries) → readEntries (suc k) css ≡ o → consEntry e o ≡ stops n place → Below → UnkStops (cs ∷ css) k n place
-    rest-case e ee room (entries-are es) eo h ih = stops-entries (sym h)
-    rest-case e ee room (stops m p) eo h ih =
-        let s = ih (suc-le-suc room) (eo ∙ h) in
-        let i : place ≡ suc k + length (s .pre) = s .at in
-        record {
-          pre = cs ∷ s .pre;
-          bad = s .bad;
-          post = s .post;
-          whole = ap (λ l. cs ∷ l) (s .whole);
-          at = omega arith;
-          read = e ∷ s .read;
-          before = next (unk-line-sound cs e ee) (s .before);
-          reason = s .reason;
-        }
-
-    room-case : (e : Entry) → unkLineOf cs ≡ entry e → (b : Bool) → ltb 4096 k ≡ b → orFull b k e (λ j. readEntries j css) ≡ stops n place → Below → UnkStops (cs ∷ css) k n place
-    room-case e ee true eb h ih =
-        let en : n ≡ 25 = cc in
-        let ek : place ≡ k = cc in
-        let full : 4096 < k = ltb-true 4096 k eb in
-        record { pre = []; bad = cs; post = css; whole = refl; at = omega arith; read = []; before = done; reason = inr (en, omega arith, (e, unk-line-sound cs e ee)) }
-    room-case e ee false eb h ih = rest-case e ee (ltb-false 4096 k eb) (readEntries (suc k) css) refl h ih
-
-    found-case : (o : UnkFound) → unkLineOf cs ≡ o → enterUnk k o (λ j. readEntries j css) ≡ stops n place → Below → UnkStops (cs ∷ css) k n place
-    found-case (no-entry m) eo h ih =
-        let en : m ≡ n = cc in
-        let ek : place ≡ k = cc in
-        record { pre = []; bad = cs; post = css; whole = refl; at = omega arith; read = []; before = done; reason = inl (eo ∙ ap no-entry en) }
-    found-case (entry e) eo h ih = room-case e eo (ltb 4096 k) refl h ih
-
-unk-refused-one : (names : List (List ℕ)) (o : Entries) (n place : ℕ) → answerUnk names o ≡ refused n place → o ≡ stops n place
-unk-refused-one names (entries-are es) n place h = refused-unk (sym h)
-unk-refused-one names (stops m p) n place h =
-    let en : m ≡ n = cc in
-    let ep : p ≡ place = cc in
-    cc
-
--- the lines of a well-formed text decide; a refusal names the first line that is no entry, or the one that is one too many
-unk-first-bad : (names : List (List ℕ)) (bytes : List ℕ) (n place : ℕ) → answerUnk names (readEntries 1 (unkLines bytes)) ≡ refused n place → UnkStops (unkLines bytes) 1 n place
-unk-first-bad names bytes n place h = entries-stop (unkLines bytes) 1 n place (lit≤ tt) (unk-refused-one names (readEntries 1 (unkLines bytes)) n place h)
-
--- every text has one of four answers
-pub data UnkAnswered (names : List (List ℕ)) (bytes : List ℕ) : UnkAnswer → Type 0 where
-  too-long : 65536 < length bytes → UnkAnswered names bytes (refused 2 0)
-  ill-formed : {p : ℕ} → length bytes ≤ 65536 → (WellFormed bytes → ⊥) → LongestPrefix p bytes → UnkAnswered names bytes (refused 3 p)
-  bad-line : {n place : ℕ} → length bytes ≤ 65536 → WellFormed bytes → UnkStops (unkLines bytes) 1 n place → UnkAnswered names bytes (refused n place)
-  fitting : {u : Unk} → length bytes ≤ 65536 → WellFormed bytes → UnkFits names bytes u → UnkAnswered names bytes (accepted u)
-
-pub unk-answered : (names : List (List ℕ)) (bytes : List ℕ) → UnkAnswered names bytes (readUnk names bytes)
-unfolding readUnk
-unk-answered names bytes = size-case (ltb 65536 (length bytes)) refl refl
-  where
-    lines-case : length bytes ≤ 65536 → WellFormed bytes → (a : UnkAnswer) → answerUnk names (readEntries 1 (unkLines bytes)) ≡ a → readUnk names bytes ≡ a → UnkAnswered names bytes a
-    lines-case short w (accepted u) e h = fitting short w (unk-accepted-fits names bytes u h)
-    lines-case short w (refused n place) e h = bad-line short w (unk-first-bad names bytes n place e)
-
-    text-case : length bytes ≤ 65536 → (o : Text) → decode bytes ≡ o → readUnk names bytes ≡ readUnkText names bytes o → UnkAnswered names bytes (readUnkText names bytes o)
-    text-case short (broken p) e h = ill-formed short (ill-read bytes p e) (prefix-of bytes p e)
-    text-case short (chars cs) e h = lines-case short (well-formed bytes .1 (cs, e)) (answerUnk names (readEntries 1 (unkLines bytes))) refl h
-
-    size-case : (b : Bool) → ltb 65536 (length bytes) ≡ b → readUnk names bytes ≡ cond b (refused 2 0) (readUnkText names bytes (decode bytes))
-        → UnkAnswered names bytes (cond b (refused 2 0) (readUnkText names bytes (decode bytes)))
-    size-case true e h = too-long (ltb-true 65536 (length bytes) e)
-    size-case false e h = text-case (ltb-false 65536 (length bytes) e) (decode bytes) refl h
 
 -- ---- room for the details
 

@@ -11,7 +11,8 @@ use Rattle.paper.specs.Refusals.{textLong, textIllFormed, unkFields, unk
 use Rattle.paper.specs.Lists.{empty, cut, is, joinWith}
 use Rattle.paper.specs.Text.Scalar.{lf, cr, comma}
 use Rattle.paper.specs.Numbers.Numeral.{Integer, wrap16}
-use Rattle.paper.specs.Unk.Entry.{Entry, Unk, unkOf}
+use Rattle.paper.specs.Unk.Entry.{Entry, unkOf}
+use Rattle.paper.specs.Unk.Bad.{UnkAnswer, accepted, refused}
 use Rattle.paper.specs.Computed.Decode.{Text, broken, chars, decode}
 use Rattle.paper.specs.Computed.Numeral.{numeral, signedNumeral}
 
@@ -77,11 +78,6 @@ unfoldable pub readEntries : ℕ → List (List ℕ) → Entries
 unfolding unkLineOf
 readEntries k [] = entries-are []
 readEntries k (cs ∷ css) = enterUnk k (unkLineOf cs) (λ j. readEntries j css)
-
-pub data UnkAnswer : Type 0 where
-  accepted : Unk → UnkAnswer
-  -- number and place
-  refused : ℕ → ℕ → UnkAnswer
 
 abbrev pub answerUnk : List (List ℕ) → Entries → UnkAnswer
 answerUnk names (entries-are es) = accepted (unkOf names es)
