@@ -1,3 +1,7 @@
-pub mod Law
+pub mod Lines
+pub mod Line
 pub mod Bad
+pub mod Text
 pub mod Refused
+pub mod Details
+pub mod Members

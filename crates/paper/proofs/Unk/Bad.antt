@@ -23,7 +23,8 @@ use Rattle.paper.specs.Computed.ReadUnk.{UnkFound, entry, no-entry, from
 use Rattle.paper.proofs.CharDef.Sound.{zero-one, cut-pieces}
 use Rattle.paper.proofs.CharDef.Complete.{le10}
 use Rattle.paper.proofs.Numbers.Laws.{unsigned-none, signed-none}
-use Rattle.paper.proofs.Unk.Law.{cut-joinWith, pieces-joinWith, unk-line}
+use Rattle.paper.proofs.Unk.Lines.{cut-joinWith, pieces-joinWith}
+use Rattle.paper.proofs.Unk.Line.{unk-line}
 
 -- ---- a line by itself
 

@@ -20,7 +20,9 @@ use Rattle.paper.specs.Computed.Decode.{Text, broken, chars, decode}
 use Rattle.paper.specs.Computed.ReadUnk.{unkLines, Entries, entries-are, stops, readEntries, answerUnk, readUnkText, readUnk}
 use Rattle.paper.proofs.CharDef.Sound.{zero-one}
 use Rattle.paper.proofs.CharDef.Answers.{well-formed, ill-read, prefix-of}
-use Rattle.paper.proofs.Unk.Law.{lines-are, unk-line, unk-accepts}
+use Rattle.paper.proofs.Unk.Lines.{lines-are}
+use Rattle.paper.proofs.Unk.Line.{unk-line}
+use Rattle.paper.proofs.Unk.Text.{unk-accepts}
 use Rattle.paper.proofs.Unk.Bad.{entries-stops, bad-stops, line-view}
 
 -- ---- the first bad line

@@ -1,4 +1,4 @@
--- The answer to an unk.def, computed. `Unk.Law` proves it the relation `UnkFits`.
+-- The answer to an unk.def, computed. `Unk.Refused` proves it the relation `UnkAnswered`.
 -- Assumes nothing.
 use Prim.Native.Nat.{ℕ, suc, _%_}
 use mathlib.Core.Bool.{Bool, true, false, cond}
