@@ -4,11 +4,12 @@
 use Prim.Native.Nat.{ℕ, _≤_}
 use Prim.Native.String.{String}
 use mathlib.Core.Path.{_≡_, refl}
+use mathlib.Core.Option.{Option, none, some}
 use mathlib.Core.List.{List, [], _∷_, _++_, map}
 use native.Mathlib.Omega.{arith}
 use lib.ListN.{length, replicate}
 use Rattle.paper.specs.Numbers.Numeral.{Integer, pos, neg, meaning16}
-use Rattle.paper.specs.Unk.Entry.{Entry, detailsAt}
+use Rattle.paper.specs.Unk.Entry.{Entry, detailsAt, detailsOf, entriesOf}
 use Rattle.paper.specs.Unk.Bad.{BadUnkLine, fields-short, number-unreadable, entries-full, UnkRefused, too-long, ill-formed, bad-line, UnkAnswer, accepted, refused}
 use Rattle.paper.specs.Computed.ReadUnk.{Entries, entries-are, stops, readEntries, readUnk}
 use Rattle.paper.proofs.Examples.CharDef.{Example, Holds, table, bytesOf}
@@ -22,9 +23,12 @@ pub data UnkSaying : Type 0 where
   offsets-are : List ℕ → UnkSaying
   -- the entries of A and of B
   members-are : List (List ℕ) → UnkSaying
+  -- what is found by number
+  entries-of : ℕ → Option (List ℕ) → UnkSaying
+  details-of : ℕ → Option (List ℕ) → UnkSaying
 
 unfoldable pub UnkSays : UnkSaying → UnkAnswer → Type 0
-unfolding meaning16
+unfolding meaning16 detailsOf
 UnkSays (refusal n place) a = a ≡ refused n place
 UnkSays (words-are ws) (accepted u) = map (λ w. (w .0, w .1, meaning16 (w .2))) (u .wordEntries) ≡ ws
 UnkSays (words-are ws) (refused n place) = ⊥
@@ -34,6 +38,10 @@ UnkSays (offsets-are os) (accepted u) = u .offsets ≡ os
 UnkSays (offsets-are os) (refused n place) = ⊥
 UnkSays (members-are ms) (accepted u) = u .members ≡ ms
 UnkSays (members-are ms) (refused n place) = ⊥
+UnkSays (entries-of c ks) (accepted u) = entriesOf u c ≡ ks
+UnkSays (entries-of c ks) (refused n place) = ⊥
+UnkSays (details-of k ds) (accepted u) = detailsOf u k ≡ ds
+UnkSays (details-of k ds) (refused n place) = ⊥
 
 -- a row of the paper's table: of char.def or of unk.def
 pub data Row : Type 0 where
@@ -283,16 +291,22 @@ entry-limit : map (λ r. readEntries (r .from) (map bytesOf (r .texts))) lates �
 unfolding readEntries bytesOf lates
 entry-limit = refl
 
--- the store, the offsets in it, and the entries of A and B
+-- the store, the offsets in it, the entries of A and B, and what is found by number or unknown
 unfoldable pub unkTables : List Row
 unkTables =
     unk "A,1,2,3" (store-is (0 ∷ 0 ∷ 0 ∷ 0 ∷ []))
     ∷ unk "A,1,2,3,x\nC,1,2,3\nA,4,5,6,あ" (store-is (1 ∷ 0 ∷ 0 ∷ 0 ∷ 0x78 ∷ 0 ∷ 0 ∷ 0 ∷ 0 ∷ 3 ∷ 0 ∷ 0 ∷ 0 ∷ 0xE3 ∷ 0x81 ∷ 0x82 ∷ []))
     ∷ unk "A,1,2,3,x\nC,1,2,3\nA,4,5,6,あ" (offsets-are (0 ∷ 5 ∷ 9 ∷ []))
     ∷ unk "A,1,2,3,x\nC,1,2,3\nA,4,5,6\nB,1,1,1" (members-are ((0 ∷ 2 ∷ []) ∷ (3 ∷ []) ∷ []))
+    ∷ unk "A,1,2,3,x\nC,1,2,3\nA,4,5,6,y\nB,1,1,1" (entries-of 0 (some (0 ∷ 2 ∷ [])))
+    ∷ unk "A,1,2,3,x\nC,1,2,3\nA,4,5,6,y\nB,1,1,1" (entries-of 1 (some (3 ∷ [])))
+    ∷ unk "A,1,2,3,x\nC,1,2,3\nA,4,5,6,y\nB,1,1,1" (entries-of 2 none)
+    ∷ unk "A,1,2,3,x\nC,1,2,3\nA,4,5,6,y\nB,1,1,1" (details-of 2 (some (0x79 ∷ [])))
+    ∷ unk "A,1,2,3,x\nC,1,2,3\nA,4,5,6,y\nB,1,1,1" (details-of 3 (some []))
+    ∷ unk "A,1,2,3,x\nC,1,2,3\nA,4,5,6,y\nB,1,1,1" (details-of 4 none)
     ∷ unk "a,1,2,3\n A,1,2,3\nA ,1,2,3\nAB,1,2,3\n,1,2,3" (members-are ([] ∷ [] ∷ []))
     ∷ []
 
 unk-tables : Rows unkTables
 unfolding RowHolds unkTables
-unk-tables = (refl, (refl, (refl, (refl, (refl, tt)))))
+unk-tables = (refl, (refl, (refl, (refl, (refl, (refl, (refl, (refl, (refl, (refl, (refl, tt)))))))))))

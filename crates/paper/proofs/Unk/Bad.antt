@@ -15,7 +15,7 @@ use Rattle.paper.specs.Sizes.{maxUnkEntries, maxU32, maxI32, lowI32}
 use Rattle.paper.specs.Refusals.{unkFields, unkNumber, unkEntriesFull}
 use Rattle.paper.specs.Lists.{empty, all, cut, is, without, joinWith}
 use Rattle.paper.specs.Text.Scalar.{comma}
-use Rattle.paper.specs.Numbers.Numeral.{Integer}
+use Rattle.paper.specs.Numbers.Numeral.{Integer, decimal}
 use Rattle.paper.specs.Unk.Entry.{Entry, UnkLine}
 use Rattle.paper.specs.Unk.Bad.{UnderFour, Unreadable, NoU32, NoI32, BadUnkLine, fields-short, number-unreadable, entries-full}
 use Rattle.paper.specs.Computed.Numeral.{numeral, signedNumeral}
@@ -35,8 +35,8 @@ same-number : {m n : ℕ} → no-entry m ≡ no-entry n → m ≡ n
 same-number h = cc
 
 numbers-bad : (cs a b c d : List ℕ) (ds : List (List ℕ)) (before n : ℕ) → cs ≡ joinWith comma (a ∷ b ∷ c ∷ d ∷ ds) → T (all (without comma) (a ∷ b ∷ c ∷ d ∷ ds))
-    → (x : Option ℕ) → numeral 10 maxU32 b ≡ x → (y : Option ℕ) → numeral 10 maxU32 c ≡ y
-    → (z : Option Integer) → signedNumeral 10 maxI32 lowI32 d ≡ z → fromUnkNumbers a x y z ds ≡ no-entry n → BadUnkLine before cs n
+    → (x : Option ℕ) → numeral decimal maxU32 b ≡ x → (y : Option ℕ) → numeral decimal maxU32 c ≡ y
+    → (z : Option Integer) → signedNumeral decimal maxI32 lowI32 d ≡ z → fromUnkNumbers a x y z ds ≡ no-entry n → BadUnkLine before cs n
 numbers-bad cs a b c d ds before n w p x ex y ey z ez h = go x ex y ey z ez h
   where
     bad : NoU32 b ⊎ (NoU32 c ⊎ NoI32 d) → no-entry unkNumber ≡ no-entry n → BadUnkLine before cs n
@@ -44,11 +44,11 @@ numbers-bad cs a b c d ds before n w p x ex y ey z ez h = go x ex y ey z ez h
         subst (BadUnkLine before cs) (same-number h)
         (number-unreadable (record { category = a; left = b; right = c; cost = d; more = ds; whole = w; parted = p; one-at-least = o }))
 
-    go : (x : Option ℕ) → numeral 10 maxU32 b ≡ x → (y : Option ℕ) → numeral 10 maxU32 c ≡ y
-        → (z : Option Integer) → signedNumeral 10 maxI32 lowI32 d ≡ z → fromUnkNumbers a x y z ds ≡ no-entry n → BadUnkLine before cs n
-    go none ex y ey z ez h = bad (inl (unsigned-none 10 maxU32 le10 b .0 ex)) h
-    go (some l) ex none ey z ez h = bad (inr (inl (unsigned-none 10 maxU32 le10 c .0 ey))) h
-    go (some l) ex (some r) ey none ez h = bad (inr (inr (signed-none 10 maxI32 lowI32 le10 d .0 ez))) h
+    go : (x : Option ℕ) → numeral decimal maxU32 b ≡ x → (y : Option ℕ) → numeral decimal maxU32 c ≡ y
+        → (z : Option Integer) → signedNumeral decimal maxI32 lowI32 d ≡ z → fromUnkNumbers a x y z ds ≡ no-entry n → BadUnkLine before cs n
+    go none ex y ey z ez h = bad (inl (unsigned-none decimal maxU32 le10 b .0 ex)) h
+    go (some l) ex none ey z ez h = bad (inr (inl (unsigned-none decimal maxU32 le10 c .0 ey))) h
+    go (some l) ex (some r) ey none ez h = bad (inr (inr (signed-none decimal maxI32 lowI32 le10 d .0 ez))) h
     go (some l) ex (some r) ey (some i) ez h = entry-no-entry h
 
 no-entry-bad : (cs : List ℕ) (before n : ℕ) → unkLineOf cs ≡ no-entry n → BadUnkLine before cs n
@@ -67,7 +67,7 @@ no-entry-bad cs before n h = let (w, s, p) = pieces-joinWith comma (cut-pieces (
     go (a ∷ b ∷ []) w s p h = short a (b ∷ []) w p (lit≤ tt) h
     go (a ∷ b ∷ c ∷ []) w s p h = short a (b ∷ c ∷ []) w p (lit≤ tt) h
     go (a ∷ b ∷ c ∷ d ∷ ds) w s p h =
-        numbers-bad cs a b c d ds before n w p (numeral 10 maxU32 b) refl (numeral 10 maxU32 c) refl (signedNumeral 10 maxI32 lowI32 d) refl h
+        numbers-bad cs a b c d ds before n w p (numeral decimal maxU32 b) refl (numeral decimal maxU32 c) refl (signedNumeral decimal maxI32 lowI32 d) refl h
 
 under-four-read : (cs : List ℕ) → UnderFour cs → unkLineOf cs ≡ no-entry unkFields
 unfolding unkLineOf fromFields
@@ -102,18 +102,18 @@ unreadable-read cs u =
     cost-none (some l) (some r) = refl
 
     x : Option ℕ
-    x = numeral 10 maxU32 (u .left)
+    x = numeral decimal maxU32 (u .left)
 
     y : Option ℕ
-    y = numeral 10 maxU32 (u .right)
+    y = numeral decimal maxU32 (u .right)
 
     z : Option Integer
-    z = signedNumeral 10 maxI32 lowI32 (u .cost)
+    z = signedNumeral decimal maxI32 lowI32 (u .cost)
 
     go : NoU32 (u .left) ⊎ (NoU32 (u .right) ⊎ NoI32 (u .cost)) → fromUnkNumbers (u .category) x y z (u .more) ≡ no-entry unkNumber
-    go (inl never) = ap (λ o. fromUnkNumbers (u .category) o y z (u .more)) (unsigned-none 10 maxU32 le10 (u .left) .1 never) ∙ left-none y z
-    go (inr (inl never)) = ap (λ o. fromUnkNumbers (u .category) x o z (u .more)) (unsigned-none 10 maxU32 le10 (u .right) .1 never) ∙ right-none x z
-    go (inr (inr never)) = ap (λ o. fromUnkNumbers (u .category) x y o (u .more)) (signed-none 10 maxI32 lowI32 le10 (u .cost) .1 never) ∙ cost-none x y
+    go (inl never) = ap (λ o. fromUnkNumbers (u .category) o y z (u .more)) (unsigned-none decimal maxU32 le10 (u .left) .1 never) ∙ left-none y z
+    go (inr (inl never)) = ap (λ o. fromUnkNumbers (u .category) x o z (u .more)) (unsigned-none decimal maxU32 le10 (u .right) .1 never) ∙ right-none x z
+    go (inr (inr never)) = ap (λ o. fromUnkNumbers (u .category) x y o (u .more)) (signed-none decimal maxI32 lowI32 le10 (u .cost) .1 never) ∙ cost-none x y
 
 -- ---- a line behind others
 

@@ -1,23 +1,24 @@
 -- The details of unk.def's entries: all of them with their lengths take no more bytes than the text, since an entry's four bytes of length
--- stand for three commas and three numbers of its line; and at an entry's offset stand its details.
+-- stand for three commas and three numbers of its line; and what is found by an entry's number is that entry's.
 -- Assumes nothing.
 use Prim.Native.Nat.{ℕ, zero, suc, _+_, _<_, _≤_, zero-le, suc-le-suc}
-use native.Mathlib.Nat.{le-of-suc-le-suc, not-suc-le-zero}
 use native.Mathlib.Omega.{arith}
 use mathlib.Core.Path.{_≡_, refl, sym, ap, ap₂, _∙_}
+use mathlib.Core.Logic.{_↔_}
 use mathlib.Core.Bool.{Bool}
-use mathlib.Core.List.{List, [], _∷_, _++_, map}
+use mathlib.Core.Option.{Option·map, none, some}
+use mathlib.Core.List.{List, [], _∷_, _++_, map, append-assoc}
 use lib.Dec.{T}
-use lib.ListN.{length, take, drop, getD, length-append, length-map}
-use lib.Seq.{take-append-seam, drop-append-add, drop-drop}
-use Rattle.paper.specs.Sizes.{maxI32, lowI32}
+use lib.ListN.{length, take, drop, getElem?, length-append}
+use lib.Seq.{take-append-seam, drop-append-seam, drop-drop}
+use Rattle.paper.specs.Sizes.{maxU32, maxI32, lowI32, maxDetailBytes}
 use Rattle.paper.specs.Lists.{full, joined, sum, joinWith}
 use Rattle.paper.specs.Text.Scalar.{lf, cr, comma}
 use Rattle.paper.specs.Numbers.Bytes.{le, value}
-use Rattle.paper.specs.Numbers.Numeral.{Numeral, Integer, pos, neg, SignedNumeral}
-use Rattle.paper.specs.Unk.Entry.{Lines, no-line, at-LF, at-CRLF, Entry, UnkLine, stored, offsetsFrom, Unk, unkOf, EachUnk, done, next, UnkFits, detailsAt}
+use Rattle.paper.specs.Numbers.Numeral.{Numeral, Integer, pos, neg, SignedNumeral, decimal}
+use Rattle.paper.specs.Unk.Entry.{Lines, no-line, at-LF, at-CRLF, Entry, nul, UnkLine, stored, offsetsFrom, Unk, unkOf, EachUnk, done, next, UnkFits, lengthBytes, wordOf, detailsAt, detailsOf}
 use Rattle.paper.proofs.Tables.Laws.{value-le}
-use Rattle.paper.proofs.CharDef.Sound.{last}
+use Rattle.paper.proofs.Unk.Numbered.{found-map, unknown-from}
 
 -- the length of each piece and its separator
 abbrev spans : List (List ℕ) → ℕ
@@ -55,12 +56,12 @@ stored-length e = omega arith
 -- an entry's details and their length take no more than its line
 entry-short : (cs : List ℕ) (e : Entry) → UnkLine cs e → length (stored e) ≤ length cs
 entry-short cs e u =
-    let a = numeral-length (u .lefts) in
-    let b = numeral-length (u .rights) in
-    let c = signed-length 10 maxI32 lowI32 (u .field₃) (u .number₃) (u .costs) in
-    let w = ap length (u .whole) ∙ join-length comma (e .category) (u .field₁ ∷ u .field₂ ∷ u .field₃ ∷ u .more) in
+    let a = numeral-length (u .left-read) in
+    let b = numeral-length (u .right-read) in
+    let c = signed-length decimal maxI32 lowI32 (u .costField) (u .costNumber) (u .cost-read) in
+    let w = ap length (u .whole) ∙ join-length comma (e .category) (u .leftField ∷ u .rightField ∷ u .costField ∷ u .more) in
     let d = ap length (u .details-are) in
-    let j = join-short 0 (u .more) in
+    let j = join-short nul (u .more) in
     let s = stored-length e in
     omega arith
 
@@ -84,7 +85,7 @@ lines-short (at-CRLF {l = l} r e a q) =
     let d = ap length e ∙ length-append l (cr ∷ lf ∷ r) in
     omega arith
 
--- all details with their lengths take no more than the text: 65,536 bytes are always enough
+-- all details with their lengths take no more than the text
 pub store-short : (names : List (List ℕ)) (bytes : List ℕ) (u : Unk) → UnkFits names bytes u → length (u .store) ≤ length bytes
 unfolding unkOf
 store-short names bytes u f =
@@ -94,60 +95,60 @@ store-short names bytes u f =
     let d = ap length e in
     omega arith
 
-offset-at : (ls : List (List ℕ)) (at i : ℕ) → i < length ls → getD (offsetsFrom at ls) i 0 ≡ at + sum (map length (take i ls))
-offset-at [] at i h = absurd (not-suc-le-zero h)
-offset-at (l ∷ ls) at zero h = omega arith
-offset-at (l ∷ ls) at (suc i) h = let e = offset-at ls (at + length l) i (le-of-suc-le-suc h) in omega arith
+-- "details of unk.def: 65,536 bytes, which is always enough"
+pub details-fit : (names : List (List ℕ)) (bytes : List ℕ) (u : Unk) → UnkFits names bytes u → length (u .store) ≤ maxDetailBytes
+details-fit names bytes u f = let a = store-short names bytes u f in omega (arith, f .short)
 
-drop-joined : (ls : List (List ℕ)) (i : ℕ) → i < length ls → drop (sum (map length (take i ls))) (joined ls) ≡ getD ls i [] ++ joined (drop (suc i) ls)
-drop-joined [] i h = absurd (not-suc-le-zero h)
-drop-joined (l ∷ ls) zero h = refl
-drop-joined (l ∷ ls) (suc i) h = drop-append-add l (joined ls) (sum (map length (take i ls))) ∙ drop-joined ls i (le-of-suc-le-suc h)
+-- ---- at an entry's offset
+
+details-there : (e : Entry) (more store : List ℕ) (at : ℕ) → length (e .details) < suc maxU32 → drop at store ≡ stored e ++ more → detailsAt store at ≡ e .details
+unfolding detailsAt stored
+details-there e more store at small h =
+    let n : ℕ = length (e .details) in
+    let d : drop (at + lengthBytes) store ≡ e .details ++ more = sym (drop-drop lengthBytes at store) ∙ ap (drop lengthBytes) h in
+    let t : take lengthBytes (drop at store) ≡ le lengthBytes n = ap (take lengthBytes) h in
+    ap₂ (λ x y. take (value x) y) t d
+    ∙ ap (λ k. take k (e .details ++ more)) (value-le lengthBytes n small)
+    ∙ take-append-seam (e .details) more
+
+-- `pre` holds what is stored before these entries
+details-behind : (es : List Entry) (pre : List ℕ) (k : ℕ) → length (joined (map stored es)) < suc maxU32
+    → Option·map (detailsAt (pre ++ joined (map stored es))) (getElem? (offsetsFrom (length pre) (map stored es)) k) ≡ Option·map (λ e. e .details) (getElem? es k)
+details-behind [] pre k small = refl
+details-behind (e ∷ es) pre zero small =
+    let a = length-append (stored e) (joined (map stored es)) in
+    let b = stored-length e in
+    ap some (details-there e (joined (map stored es)) (pre ++ (stored e ++ joined (map stored es))) (length pre) (omega arith)
+    (drop-append-seam pre (stored e ++ joined (map stored es))))
+details-behind (e ∷ es) pre (suc k) small =
+    let a = length-append (stored e) (joined (map stored es)) in
+    ap₂ (λ s at. Option·map (detailsAt s) (getElem? (offsetsFrom at (map stored es)) k))
+    (sym (append-assoc pre (stored e) (joined (map stored es)))) (sym (length-append pre (stored e)))
+    ∙ details-behind es (pre ++ stored e) k (omega arith)
+
+-- the details found by an entry's number are that entry's, and none are found where there is no such entry
+pub details-are : (names : List (List ℕ)) (bytes : List ℕ) (u : Unk) (f : UnkFits names bytes u) (k : ℕ)
+    → detailsOf u k ≡ Option·map (λ e. e .details) (getElem? (f .entries) k)
+unfolding detailsOf unkOf
+details-are names bytes u f k =
+    let a = store-short names bytes u f in
+    let b = f .short in
+    let e : u .store ≡ joined (map stored (f .entries)) = ap (λ v. v .store) (f .says) in
+    let c = ap length e in
+    ap (λ v. detailsOf v k) (f .says) ∙ details-behind (f .entries) [] k (omega arith)
+
+pub word-is : (names : List (List ℕ)) (bytes : List ℕ) (u : Unk) (f : UnkFits names bytes u) (k : ℕ)
+    → wordOf u k ≡ Option·map (λ e. (e .left, e .right, e .cost)) (getElem? (f .entries) k)
+unfolding unkOf
+word-is names bytes u f k = ap (λ v. wordOf v k) (f .says) ∙ found-map (λ e. (e .left, e .right, e .cost)) (f .entries) k
+
+-- 15: an entry's number is unknown exactly from the number of entries on
+pub entry-unknown : (names : List (List ℕ)) (bytes : List ℕ) (u : Unk) (f : UnkFits names bytes u) (k : ℕ) → (wordOf u k ≡ none) ↔ (length (f .entries) ≤ k)
+entry-unknown names bytes u f k = unknown-from (λ e. (e .left, e .right, e .cost)) (f .entries) k (wordOf u k) (word-is names bytes u f k)
+
+pub details-unknown : (names : List (List ℕ)) (bytes : List ℕ) (u : Unk) (f : UnkFits names bytes u) (k : ℕ) → (detailsOf u k ≡ none) ↔ (length (f .entries) ≤ k)
+details-unknown names bytes u f k = unknown-from (λ e. e .details) (f .entries) k (detailsOf u k) (details-are names bytes u f k)
 
 pub offsets-length : (ls : List (List ℕ)) (at : ℕ) → length (offsetsFrom at ls) ≡ length ls
 offsets-length [] at = refl
 offsets-length (l ∷ ls) at = ap suc (offsets-length ls (at + length l))
-
-details-there : (e : Entry) (more store : List ℕ) (at : ℕ) → length (e .details) < 0x1_0000_0000 → drop at store ≡ stored e ++ more → detailsAt store at ≡ e .details
-unfolding detailsAt stored
-details-there e more store at small h =
-    let n : ℕ = length (e .details) in
-    let d : drop (at + 4) store ≡ e .details ++ more = sym (drop-drop 4 at store) ∙ ap (drop 4) h in
-    let t : take 4 (drop at store) ≡ le 4 n = ap (take 4) h in
-    ap₂ (λ x y. take (value x) y) t d
-    ∙ ap (λ k. take k (e .details ++ more)) (value-le 4 n small)
-    ∙ take-append-seam (e .details) more
-
-getD-stored : (es : List Entry) (i : ℕ) (d : Entry) → i < length es → getD (map stored es) i [] ≡ stored (getD es i d)
-getD-stored [] i d h = absurd (not-suc-le-zero h)
-getD-stored (e ∷ es) zero d h = refl
-getD-stored (e ∷ es) (suc i) d h = getD-stored es i d (le-of-suc-le-suc h)
-
-stored-part : (es : List Entry) (i : ℕ) (d : Entry) → i < length es → length (stored (getD es i d)) ≤ length (joined (map stored es))
-stored-part [] i d h = absurd (not-suc-le-zero h)
-stored-part (e ∷ es) zero d h = let a = length-append (stored e) (joined (map stored es)) in omega arith
-stored-part (e ∷ es) (suc i) d h =
-    let a = length-append (stored e) (joined (map stored es)) in
-    let b = stored-part es i d (le-of-suc-le-suc h) in
-    omega arith
-
--- at entry i's offset the store has entry i's details; `d` stands for no entry
-pub details-are : (names : List (List ℕ)) (bytes : List ℕ) (u : Unk) (f : UnkFits names bytes u) (i : ℕ) (d : Entry) → i < length (f .entries)
-    → detailsAt (u .store) (getD (u .offsets) i 0) ≡ getD (f .entries) i d .details
-unfolding unkOf
-details-are names bytes u f i d h =
-    let es : List Entry = f .entries in
-    let s : u .store ≡ joined (map stored es) = ap (λ v. v .store) (f .says) in
-    let o : u .offsets ≡ offsetsFrom 0 (map stored es) = ap (λ v. v .offsets) (f .says) in
-    let k : i < length (map stored es) = rw (length-map es stored) h in
-    let z : 0 + sum (map length (take i (map stored es))) ≡ sum (map length (take i (map stored es))) = omega arith in
-    let at : getD (u .offsets) i 0 ≡ sum (map length (take i (map stored es))) = ap (λ l. getD l i 0) o ∙ offset-at (map stored es) 0 i k ∙ z in
-    let there : drop (getD (u .offsets) i 0) (u .store) ≡ stored (getD es i d) ++ joined (drop (suc i) (map stored es)) =
-    ap₂ (λ x y. drop x y) at s ∙ drop-joined (map stored es) i k ∙ ap (λ x. x ++ joined (drop (suc i) (map stored es))) (getD-stored es i d h) in
-    let a = store-short names bytes u f in
-    let b = f .short in
-    let c = ap length s in
-    let p = stored-part es i d h in
-    let q = stored-length (getD es i d) in
-    let small : length (getD es i d .details) < 0x1_0000_0000 = omega arith in
-    details-there (getD es i d) (joined (drop (suc i) (map stored es))) (u .store) (getD (u .offsets) i 0) small there

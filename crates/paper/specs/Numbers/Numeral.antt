@@ -5,6 +5,7 @@ use mathlib.Core.Path.{_≡_}
 use mathlib.Core.Bool.{Bool, true, false, cond}
 use mathlib.Core.List.{List, [], _∷_, _++_}
 use lib.Dec.{T, ltb, eqb}
+use Rattle.paper.specs.Sizes.{maxU32, maxI32, lowI32}
 use Rattle.paper.specs.Lists.{full}
 use Rattle.paper.specs.Text.Scalar.{between, plusSign, minusSign}
 
@@ -66,13 +67,32 @@ abbrev pub SignedNumeral : ℕ → ℕ → ℕ → List ℕ → Integer → Type
 SignedNumeral base top low cs (pos n) = Numeral base top cs n
 SignedNumeral base top low cs (neg n) = Negative base low cs n
 
+-- ---- u32 and i32
+
+abbrev pub decimal : ℕ
+decimal = 10
+
+-- "the u32 and i32 reading of Rust's library"
+abbrev pub U32 : List ℕ → ℕ → Type 0
+U32 cs n = Numeral decimal maxU32 cs n
+
+abbrev pub I32 : List ℕ → Integer → Type 0
+I32 cs i = SignedNumeral decimal maxI32 lowI32 cs i
+
 -- ---- sixteen bits
+
+abbrev pub modulus16 : ℕ
+modulus16 = 65536
+
+-- from here on a number of 16 bits means a negative one
+abbrev pub half16 : ℕ
+half16 = 32768
 
 -- a number below 65,536 that a whole number is kept as: modulo 65,536, a negative one in two's complement
 unfoldable pub wrap16 : Integer → ℕ
-wrap16 (pos n) = n % 65536
-wrap16 (neg n) = (65536 - n % 65536) % 65536
+wrap16 (pos n) = n % modulus16
+wrap16 (neg n) = (modulus16 - n % modulus16) % modulus16
 
 -- what a number below 65,536 means as a signed one: below 32,768 itself, from there on 65,536 less
 unfoldable pub meaning16 : ℕ → Integer
-meaning16 w = cond (ltb w 32768) (pos w) (neg (65536 - w))
+meaning16 w = cond (ltb w half16) (pos w) (neg (modulus16 - w))

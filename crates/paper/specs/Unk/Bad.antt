@@ -7,11 +7,11 @@ use mathlib.Core.Logic.{_⊎_}
 use mathlib.Core.List.{List, _∷_, _++_}
 use lib.Dec.{T}
 use lib.ListN.{length}
-use Rattle.paper.specs.Sizes.{maxTextBytes, maxUnkEntries, maxU32, maxI32, lowI32}
+use Rattle.paper.specs.Sizes.{maxTextBytes, maxUnkEntries}
 use Rattle.paper.specs.Refusals.{textLong, textIllFormed, unkFields, unkNumber, unkEntriesFull}
 use Rattle.paper.specs.Lists.{all, without, joinWith}
 use Rattle.paper.specs.Text.Scalar.{comma, WellFormed, LongestPrefix}
-use Rattle.paper.specs.Numbers.Numeral.{Numeral, Integer, SignedNumeral}
+use Rattle.paper.specs.Numbers.Numeral.{U32, I32, Integer}
 use Rattle.paper.specs.Unk.Entry.{Lines, Entry, UnkLine, EachUnk, Unk, UnkFits}
 
 -- ---- a line
@@ -29,10 +29,10 @@ pub record UnderFour (cs : List ℕ) : Type 0 where
   pub few : length (first ∷ more) < neededFields
 
 abbrev pub NoU32 : List ℕ → Type 0
-NoU32 cs = (n : ℕ) → Numeral 10 maxU32 cs n → ⊥
+NoU32 cs = (n : ℕ) → U32 cs n → ⊥
 
 abbrev pub NoI32 : List ℕ → Type 0
-NoI32 cs = (i : Integer) → SignedNumeral 10 maxI32 lowI32 cs i → ⊥
+NoI32 cs = (i : Integer) → I32 cs i → ⊥
 
 -- "unk left, right or cost unreadable", in a line of four fields or more
 pub record Unreadable (cs : List ℕ) : Type 0 where
