@@ -1,5 +1,5 @@
--- "Examples; P is proved": `marked-hold` is the paper's table row by row, the rows of char.def and the row of unk.def as one statement over
--- one table, and it holds by computation. Behind it stand further texts of unk.def, each with its whole answer.
+-- "Examples; P is proved": `marked-hold` is the paper's table row by row, char.def's rows marked P and unk.def's, as one statement over one
+-- table, by computation; a row that says two things stands twice. Behind it stand further texts of unk.def, each with its whole answer.
 -- Assumes nothing.
 use Prim.Native.Nat.{ℕ, _≤_}
 use Prim.Native.String.{String}
@@ -231,7 +231,7 @@ costs-wrap : Shows costs
 unfolding Shows costs
 costs-wrap = refl
 
--- "Order: 3; then lines from the top. Within an unk line 23, 24, 25": 23 comes before 24 also where U reads a number first
+-- "lines from the top .. Within an unk line 23, 24, 25", and "23 comes before 24 even where U reads a number first"
 unfoldable pub orders : List (String × Shown)
 orders =
     ("A,x", bad 23 1)

@@ -79,6 +79,12 @@ unk-line-complete cs e u =
 pub unk-line : (cs : List ℕ) (e : Entry) → (unkLineOf cs ≡ entry e) ↔ UnkLine cs e
 unk-line cs e = (unk-line-sound cs e, unk-line-complete cs e)
 
+pub unk-line-one : (cs : List ℕ) (d e : Entry) → UnkLine cs d → UnkLine cs e → d ≡ e
+unk-line-one cs d e u v =
+    let x = unk-line-complete cs d u in
+    let y = unk-line-complete cs e v in
+    cc
+
 pub sixteen : (cs : List ℕ) (e : Entry) → UnkLine cs e → Sixteen e
 sixteen cs e u =
     let l : e .left ≡ u .leftNumber % modulus16 = u .left-is in

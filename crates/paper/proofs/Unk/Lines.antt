@@ -101,3 +101,6 @@ lines-read (at-CRLF {l = l} r e a q) =
 pub lines-are : (bytes : List ℕ) (ls : List (List ℕ)) → (unkLines bytes ≡ ls) ↔ Lines bytes ls
 unfolding unkLines
 lines-are bytes ls = (λ e. subst (Lines bytes) e (pieces-lines (cut-pieces (is lf) bytes)), λ h. lines-read h)
+
+pub lines-one : (bytes : List ℕ) (ls ms : List (List ℕ)) → Lines bytes ls → Lines bytes ms → ls ≡ ms
+lines-one bytes ls ms a b = sym (lines-read a) ∙ lines-read b

@@ -23,7 +23,7 @@ use Rattle.paper.proofs.CharDef.Answers.{well-formed, ill-read, prefix-
 use Rattle.paper.proofs.Unk.Lines.{lines-are}
 use Rattle.paper.proofs.Unk.Line.{unk-line}
 use Rattle.paper.proofs.Unk.Text.{unk-accepts}
-use Rattle.paper.proofs.Unk.Bad.{entries-stops, bad-stops, line-view}
+use Rattle.paper.proofs.Unk.Bad.{stops-same, entries-stops, bad-stops, line-view}
 
 -- ---- the first bad line
 
@@ -47,7 +47,7 @@ stop-first (cs ∷ css) pre es bytes n place split each few h =
         → readEntries (suc (length (pre ++ (cs ∷ [])))) css ≡ stops n place → UnkFirstBad n place bytes)
         → UnkFirstBad n place bytes
     go (inl (p, b)) later =
-        record { lines = pre ++ (cs ∷ css); split = split; pre = pre; bad = cs; post = css; whole = refl; at = p; entries = es; before = each; few = few; wrong = b }
+        record { lines = pre ++ (cs ∷ css); split = split; pre = pre; bad = cs; post = css; whole = refl; at = p; entries = es; before = each; few = omega arith; wrong = b }
     go (inr (e, u, room, r)) later =
         later (es ++ (e ∷ []))
         (subst (Lines bytes) (sym (append-assoc pre (cs ∷ []) css)) split)
@@ -80,6 +80,9 @@ first-bad-stops bytes n place f =
 pub unk-first-bad : (bytes : List ℕ) (n place : ℕ) → (readEntries 1 (unkLines bytes) ≡ stops n place) ↔ UnkFirstBad n place bytes
 unk-first-bad bytes n place =
     (stop-first (unkLines bytes) [] [] bytes n place (lines-are bytes (unkLines bytes) .0 refl) done (lit≤ tt), first-bad-stops bytes n place)
+
+pub unk-first-bad-one : (bytes : List ℕ) (m n j k : ℕ) → UnkFirstBad m j bytes → UnkFirstBad n k bytes → (m ≡ n) × (j ≡ k)
+unk-first-bad-one bytes m n j k a b = stops-same (sym (first-bad-stops bytes m j a) ∙ first-bad-stops bytes n k b)
 
 -- ---- refused texts
 

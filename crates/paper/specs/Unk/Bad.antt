@@ -1,5 +1,5 @@
 -- unk.def's refusals in the words of "Refusals by number": what is wrong with a line, the first bad line of a text, and what is wrong with a
--- text before any line is looked at. "Order: 2; 3; then lines from the top. Within an unk line 23, 24, 25."
+-- text before any line is looked at. "Order: .. 2; 3; then lines from the top .. Within an unk line 23, 24, 25."
 -- Assumes nothing.
 use Prim.Native.Nat.{ℕ, suc, _<_, _≤_}
 use mathlib.Core.Path.{_≡_}
