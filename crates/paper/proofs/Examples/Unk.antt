@@ -8,6 +8,7 @@ use mathlib.Core.Option.{Option, none, some}
 use mathlib.Core.List.{List, [], _∷_, _++_, map}
 use native.Mathlib.Omega.{arith}
 use lib.ListN.{length, replicate}
+use Rattle.paper.specs.Sizes.{maxTextBytes, maxUnkEntries, maxDetailBytes}
 use Rattle.paper.specs.Numbers.Numeral.{Integer, pos, neg, meaning16}
 use Rattle.paper.specs.Unk.Entry.{Entry, detailsAt, detailsOf, entriesOf}
 use Rattle.paper.specs.Unk.Bad.{BadUnkLine, fields-short, number-unreadable, entries-full, UnkRefused, too-long, ill-formed, bad-line, UnkAnswer, accepted, refused}
@@ -248,6 +249,10 @@ orders-hold = refl
 ill-formed-first : map (readUnk []) ((0x0A ∷ 0xFF ∷ []) ∷ (0x41 ∷ 0x2C ∷ 0xE3 ∷ 0x81 ∷ []) ∷ []) ≡ refused 3 1 ∷ refused 3 2 ∷ []
 unfolding readUnk
 ill-formed-first = refl
+
+-- unk.def's "Sizes"
+sizes-are : maxTextBytes ∷ maxUnkEntries ∷ maxDetailBytes ∷ [] ≡ 65536 ∷ 4096 ∷ 65536 ∷ []
+sizes-are = refl
 
 -- 65,537 bytes are refused by 2, and fewer never are
 too-long-text : readUnk [] (replicate 65537 0x41) ≡ refused 2 0
