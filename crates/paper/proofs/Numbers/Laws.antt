@@ -36,13 +36,13 @@ spelled base limit ds n =
 pub unsigned : (base limit : ℕ) → base ≤ noDigit → (cs : List ℕ) (n : ℕ) → (numeral base limit cs ≡ some n) ↔ Numeral base limit cs n
 unsigned base limit b16 cs n = (numeral-sound base limit cs n, λ s. numeral-read base limit b16 s)
 
-none-number {ℓ} : {X : Type ℓ} {n : ℕ} → none ≡ some n → X
-none-number e = zero-one (cc)
+pub none-some {ℓ κ} : {X : Type ℓ} {A : Type κ} {a : A} → none ≡ some a → X
+none-some e = zero-one (cc)
 
 -- nothing is read exactly where there is no such numeral
 pub unsigned-none : (base limit : ℕ) → base ≤ noDigit → (cs : List ℕ) → (numeral base limit cs ≡ none) ↔ ((n : ℕ) → Numeral base limit cs n → ⊥)
 unsigned-none base limit b16 cs =
-    (λ e n r. none-number (sym e ∙ unsigned base limit b16 cs n .1 r), λ never. go never (numeral base limit cs) refl)
+    (λ e n r. none-some (sym e ∙ unsigned base limit b16 cs n .1 r), λ never. go never (numeral base limit cs) refl)
   where
     go : ((n : ℕ) → Numeral base limit cs n → ⊥) → (o : Option ℕ) → numeral base limit cs ≡ o → numeral base limit cs ≡ none
     go never none e = e
@@ -57,26 +57,23 @@ unsigned-one base limit b16 cs m n r s =
 
 -- ---- a sign
 
-none-integer {ℓ} : {X : Type ℓ} {i : Integer} → none ≡ some i → X
-none-integer e = zero-one (cc)
-
 nil-minus {ℓ} : {X : Type ℓ} {l : List ℕ} → [] ≡ minusSign ∷ l → X
 nil-minus e = zero-one (cc)
 
 module _ (base top low : ℕ) (b16 : base ≤ noDigit) where
   signed-sound : (cs : List ℕ) (i : Integer) → signedNumeral base top low cs ≡ some i → SignedNumeral base top low cs i
   unfolding signedNumeral
-  signed-sound [] i h = none-integer h
+  signed-sound [] i h = none-some h
   signed-sound (c ∷ cs) i h = sign (eqb c minusSign) refl h
     where
       minus-case : c ≡ minusSign → (o : Option ℕ) → spelledBy base low cs ≡ o → asNeg o ≡ some i → SignedNumeral base top low (c ∷ cs) i
-      minus-case e none eo h = none-integer h
+      minus-case e none eo h = none-some h
       minus-case e (some n) eo h =
           let ei : i ≡ neg n = cc in
           rw ei (record { digits = cs; whole = ap (λ k. k ∷ cs) e; is-spelled = spelled base low cs n .0 eo })
 
       plus-case : (o : Option ℕ) → numeral base top (c ∷ cs) ≡ o → asPos o ≡ some i → SignedNumeral base top low (c ∷ cs) i
-      plus-case none eo h = none-integer h
+      plus-case none eo h = none-some h
       plus-case (some n) eo h =
           let ei : i ≡ pos n = cc in
           rw ei (numeral-sound base top (c ∷ cs) n eo)
@@ -108,7 +105,7 @@ module _ (base top low : ℕ) (b16 : base ≤ noDigit) where
       cc
 
   pub signed-none : (cs : List ℕ) → (signedNumeral base top low cs ≡ none) ↔ ((i : Integer) → SignedNumeral base top low cs i → ⊥)
-  signed-none cs = (λ e i r. none-integer (sym e ∙ signed-complete cs i r), λ never. go never (signedNumeral base top low cs) refl)
+  signed-none cs = (λ e i r. none-some (sym e ∙ signed-complete cs i r), λ never. go never (signedNumeral base top low cs) refl)
     where
       go : ((i : Integer) → SignedNumeral base top low cs i → ⊥) → (o : Option Integer) → signedNumeral base top low cs ≡ o → signedNumeral base top low cs ≡ none
       go never none e = e

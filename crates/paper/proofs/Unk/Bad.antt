@@ -24,12 +24,9 @@ use Rattle.paper.proofs.CharDef.Sound.{zero-one, cut-pieces}
 use Rattle.paper.proofs.CharDef.Complete.{le10}
 use Rattle.paper.proofs.Numbers.Laws.{unsigned-none, signed-none}
 use Rattle.paper.proofs.Unk.Lines.{cut-joinWith, pieces-joinWith}
-use Rattle.paper.proofs.Unk.Line.{unk-line}
+use Rattle.paper.proofs.Unk.Line.{no-entry-entry, unk-line}
 
 -- ---- a line by itself
-
-entry-no-entry {ℓ} : {X : Type ℓ} {n : ℕ} {e : Entry} → entry e ≡ no-entry n → X
-entry-no-entry h = zero-one (cc)
 
 same-number : {m n : ℕ} → no-entry m ≡ no-entry n → m ≡ n
 same-number h = cc
@@ -49,7 +46,7 @@ numbers-bad cs a b c d ds before n w p x ex y ey z ez h = go x ex y ey z ez h
     go none ex y ey z ez h = bad (inl (unsigned-none decimal maxU32 le10 b .0 ex)) h
     go (some l) ex none ey z ez h = bad (inr (inl (unsigned-none decimal maxU32 le10 c .0 ey))) h
     go (some l) ex (some r) ey none ez h = bad (inr (inr (signed-none decimal maxI32 lowI32 le10 d .0 ez))) h
-    go (some l) ex (some r) ey (some i) ez h = entry-no-entry h
+    go (some l) ex (some r) ey (some i) ez h = no-entry-entry (sym h)
 
 no-entry-bad : (cs : List ℕ) (before n : ℕ) → unkLineOf cs ≡ no-entry n → BadUnkLine before cs n
 unfolding unkLineOf fromFields

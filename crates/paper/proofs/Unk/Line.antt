@@ -19,7 +19,7 @@ use Rattle.paper.proofs.CharDef.Complete.{le10, numeral-read}
 use Rattle.paper.proofs.Numbers.Laws.{signed, wrap-below}
 use Rattle.paper.proofs.Unk.Lines.{cut-joinWith, pieces-joinWith}
 
-no-entry-entry {ℓ} : {X : Type ℓ} {n : ℕ} {e : Entry} → no-entry n ≡ entry e → X
+pub no-entry-entry {ℓ} : {X : Type ℓ} {n : ℕ} {e : Entry} → no-entry n ≡ entry e → X
 no-entry-entry h = zero-one (cc)
 
 numbers-sound : (cs a b c d : List ℕ) (ds : List (List ℕ)) (e : Entry) → cs ≡ joinWith comma (a ∷ b ∷ c ∷ d ∷ ds) → T (all (without comma) (a ∷ b ∷ c ∷ d ∷ ds))

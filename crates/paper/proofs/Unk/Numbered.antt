@@ -15,12 +15,9 @@ use borrow.Author.Tests.{eq-eqb}
 use mir.Facts.{and-yes, or-yes, ltb-yes}
 use Rattle.paper.specs.Lists.{all, any}
 use Rattle.paper.specs.Unk.Entry.{rises, Listed}
-use Rattle.paper.proofs.CharDef.Sound.{zero-one}
+use Rattle.paper.proofs.Numbers.Laws.{none-some}
 
 -- ---- lists by number
-
-pub none-some {ℓ κ} : {X : Type ℓ} {A : Type κ} {a : A} → none ≡ some a → X
-none-some e = zero-one (cc)
 
 pub some-same {ℓ} : {A : Type ℓ} {a b : A} → some a ≡ some b → a ≡ b
 some-same e = cc

@@ -14,15 +14,14 @@ use borrow.Author.Tests.{ltb-true, ltb-false, lt-ltb, le-ltb}
 use Rattle.paper.specs.Sizes.{maxTextBytes, maxUnkEntries}
 use Rattle.paper.specs.Refusals.{textLong, unkEntriesFull}
 use Rattle.paper.specs.Text.Scalar.{WellFormed, LongestPrefix}
-use Rattle.paper.specs.Unk.Entry.{Lines, Entry, UnkLine, EachUnk, done, next, Unk}
+use Rattle.paper.specs.Unk.Entry.{Lines, Entry, UnkLine, EachUnk, done, next}
 use Rattle.paper.specs.Unk.Bad.{BadUnkLine, fields-short, number-unreadable, entries-full, UnkFirstBad, UnkRefused, too-long, ill-formed, bad-line, UnkAnswer, accepted, refused, UnkAnswered, fitting, refusing}
 use Rattle.paper.specs.Computed.Decode.{Text, broken, chars, decode}
 use Rattle.paper.specs.Computed.ReadUnk.{unkLines, Entries, entries-are, stops, readEntries, answerUnk, readUnkText, readUnk}
-use Rattle.paper.proofs.CharDef.Sound.{zero-one}
 use Rattle.paper.proofs.CharDef.Answers.{well-formed, ill-read, prefix-of}
 use Rattle.paper.proofs.Unk.Lines.{lines-are}
 use Rattle.paper.proofs.Unk.Line.{unk-line}
-use Rattle.paper.proofs.Unk.Text.{unk-accepts}
+use Rattle.paper.proofs.Unk.Text.{refused-unk, unk-accepts}
 use Rattle.paper.proofs.Unk.Bad.{stops-same, entries-stops, bad-stops, line-view}
 
 -- ---- the first bad line
@@ -86,14 +85,11 @@ unk-first-bad-one bytes m n j k a b = stops-same (sym (first-bad-stops bytes m j
 
 -- ---- refused texts
 
-accepted-refused {ℓ} : {X : Type ℓ} {n k : ℕ} {u : Unk} → accepted u ≡ refused n k → X
-accepted-refused h = zero-one (cc)
-
 refused-same : {m n j k : ℕ} → refused m j ≡ refused n k → (m ≡ n) × (j ≡ k)
 refused-same h = (cc, cc)
 
 answer-stops : (names : List (List ℕ)) (o : Entries) (n place : ℕ) → answerUnk names o ≡ refused n place → o ≡ stops n place
-answer-stops names (entries-are es) n place h = accepted-refused h
+answer-stops names (entries-are es) n place h = refused-unk (sym h)
 answer-stops names (stops m p) n place h = let (en, ep) = refused-same h in ap₂ stops en ep
 
 unk-refused-sound : (names : List (List ℕ)) (bytes : List ℕ) (n place : ℕ) → readUnk names bytes ≡ refused n place → UnkRefused bytes n place

@@ -22,11 +22,9 @@ use Rattle.paper.proofs.CharDef.Sound.{false→T, zero-one}
 use Rattle.paper.proofs.Text.Code.{decode-complete, decode-sound}
 use Rattle.paper.proofs.Unk.Lines.{lines-are}
 use Rattle.paper.proofs.Unk.Line.{unk-line-sound, unk-line-complete}
+use Rattle.paper.proofs.Unk.Bad.{entries-stops}
 
 -- ---- all lines
-
-stops-entries {ℓ} : {X : Type ℓ} {n k : ℕ} {es : List Entry} → stops n k ≡ entries-are es → X
-stops-entries h = zero-one (cc)
 
 entries-sound : (css : List (List ℕ)) (k : ℕ) (es : List Entry) → k ≤ suc maxUnkEntries → readEntries k css ≡ entries-are es → EachUnk css es × (k + length es ≤ suc maxUnkEntries)
 unfolding readEntries
@@ -42,18 +40,18 @@ entries-sound (cs ∷ css) k es small h = found-case (unkLineOf cs) refl h (λ e
     Goal = EachUnk (cs ∷ css) es × (k + length es ≤ suc maxUnkEntries)
 
     rest-case : (e : Entry) → unkLineOf cs ≡ entry e → k ≤ maxUnkEntries → (o : Entries) → readEntries (suc k) css ≡ o → consEntry e o ≡ entries-are es → Below → Goal
-    rest-case e ee room (stops n p) eo h ih = stops-entries h
+    rest-case e ee room (stops n p) eo h ih = entries-stops (sym h)
     rest-case e ee room (entries-are es′) eo h ih =
         let q : es ≡ e ∷ es′ = cc in
         let (f, l) = ih es′ (suc-le-suc room) eo in
         rw q (next (unk-line-sound cs e ee) f, omega arith)
 
     room-case : (e : Entry) → unkLineOf cs ≡ entry e → (b : Bool) → ltb maxUnkEntries k ≡ b → orFull b k e (λ j. readEntries j css) ≡ entries-are es → Below → Goal
-    room-case e ee true eb h ih = stops-entries h
+    room-case e ee true eb h ih = entries-stops (sym h)
     room-case e ee false eb h ih = rest-case e ee (ltb-false maxUnkEntries k eb) (readEntries (suc k) css) refl h ih
 
     found-case : (o : UnkFound) → unkLineOf cs ≡ o → enterUnk k o (λ j. readEntries j css) ≡ entries-are es → Below → Goal
-    found-case (no-entry n) eo h ih = stops-entries h
+    found-case (no-entry n) eo h ih = entries-stops (sym h)
     found-case (entry e) eo h ih = room-case e eo (ltb maxUnkEntries k) refl h ih
 
 entries-complete : {css : List (List ℕ)} {es : List Entry} (k : ℕ) → EachUnk css es → k + length es ≤ suc maxUnkEntries → readEntries k css ≡ entries-are es
@@ -71,7 +69,7 @@ entries-complete k (next {cs = cs} {e = e} {es = es} u t) h =
 
 -- ---- a text
 
-refused-unk {ℓ} : {X : Type ℓ} {n k : ℕ} {u : Unk} → refused n k ≡ accepted u → X
+pub refused-unk {ℓ} : {X : Type ℓ} {n k : ℕ} {u : Unk} → refused n k ≡ accepted u → X
 refused-unk h = zero-one (cc)
 
 unk-accepted-fits : (names : List (List ℕ)) (bytes : List ℕ) (u : Unk) → readUnk names bytes ≡ accepted u → UnkFits names bytes u
