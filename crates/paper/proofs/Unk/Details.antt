@@ -49,7 +49,7 @@ signed-length : (base top low : ℕ) (cs : List ℕ) (i : Integer) → SignedNum
 signed-length base top low cs (pos n) r = numeral-length r
 signed-length base top low cs (neg n) r = let e = ap length (r .whole) in omega arith
 
-stored-length : (e : Entry) → length (stored e) ≡ 4 + length (e .details)
+stored-length : (e : Entry) → length (stored e) ≡ lengthBytes + length (e .details)
 unfolding stored
 stored-length e = omega arith
 
