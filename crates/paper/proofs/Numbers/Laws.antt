@@ -1,8 +1,10 @@
--- The reading of numbers: one law over base and limit, used at 16 bits in hex, at u32 and at i32.
+-- The reading of numbers: one law over base and limit, used at 16 bits in hex, at u32 and at i32, and with a sign over the law without.
+-- A number is read exactly where characters spell it within the limit, nothing is read exactly where they spell none, and what 16 bits keep
+-- of it means a signed 16-bit number that differs by a multiple of 65,536.
 -- Assumes nothing.
-use Prim.Native.Nat.{ℕ, _+_, _-_, _%_, _<_, _≤_}
+use Prim.Native.Nat.{ℕ, _-_, _%_, _<_, _≤_}
 use native.Mathlib.Omega.{arith}
-use mathlib.Core.Path.{_≡_, refl, ap, _∙_}
+use mathlib.Core.Path.{_≡_, refl, sym, ap, _∙_}
 use mathlib.Core.Logic.{_↔_}
 use mathlib.Core.Bool.{Bool, true, false, not, cond}
 use mathlib.Core.Option.{Option, none, some}
@@ -11,11 +13,14 @@ use lib.Dec.{leb, ltb, eqb}
 use mir.Facts.{and-yes, yes-leb}
 use borrow.Author.Tests.{eqb-true, ltb-true, ltb-false}
 use Rattle.paper.specs.Lists.{full}
-use Rattle.paper.specs.Numbers.Numeral.{isDigit, Numeral, Integer, SignedNumeral, Spelled, meaning16, neg, pos, wrap16}
+use Rattle.paper.specs.Text.Scalar.{minusSign}
+use Rattle.paper.specs.Numbers.Numeral.{isDigit, Numeral, Spelled, Integer, pos, neg, SignedNumeral, noDigit, modulus16, half16, wrap16, meaning16, Congruent, Short16}
 use Rattle.paper.specs.Computed.Numeral.{spelledBy, numeral, asNeg, asPos, signedNumeral}
 use Rattle.paper.proofs.Lists.Facts.{T→true, T→false}
 use Rattle.paper.proofs.CharDef.Sound.{zero-one, spelled-sound, numeral-sound}
 use Rattle.paper.proofs.CharDef.Complete.{digit-apart, numeral-chars, numeral-read}
+
+-- ---- digits
 
 -- the law: what is read is what is spelled
 pub spelled : (base limit : ℕ) (ds : List ℕ) (n : ℕ) → (spelledBy base limit ds ≡ some n) ↔ Spelled base limit ds n
@@ -26,67 +31,89 @@ spelled base limit ds n =
     back : Spelled base limit ds n → spelledBy base limit ds ≡ some n
     back s = rw (← s .value, T→true (full (isDigit base) ds) (s .digits), T→true (leb n limit) (yes-leb (s .fits)))
 
--- with an optional `+`
-pub unsigned : (base limit : ℕ) → base ≤ 16 → (cs : List ℕ) (n : ℕ) → (numeral base limit cs ≡ some n) ↔ Numeral base limit cs n
+-- ---- an optional `+`
+
+pub unsigned : (base limit : ℕ) → base ≤ noDigit → (cs : List ℕ) (n : ℕ) → (numeral base limit cs ≡ some n) ↔ Numeral base limit cs n
 unsigned base limit b16 cs n = (numeral-sound base limit cs n, λ s. numeral-read base limit b16 s)
 
-none-integer {ℓ} : {X : Type ℓ} {i : Integer} → none ≡ some i → X
-none-integer e = zero-one (cc)
+pub none-some {ℓ κ} : {X : Type ℓ} {A : Type κ} {a : A} → none ≡ some a → X
+none-some e = zero-one (cc)
 
-nil-minus {ℓ} : {X : Type ℓ} {l : List ℕ} → [] ≡ 45 ∷ l → X
+-- nothing is read exactly where there is no such numeral
+pub unsigned-none : (base limit : ℕ) → base ≤ noDigit → (cs : List ℕ) → (numeral base limit cs ≡ none) ↔ ((n : ℕ) → Numeral base limit cs n → ⊥)
+unsigned-none base limit b16 cs =
+    (λ e n r. none-some (sym e ∙ unsigned base limit b16 cs n .1 r), λ never. go never (numeral base limit cs) refl)
+  where
+    go : ((n : ℕ) → Numeral base limit cs n → ⊥) → (o : Option ℕ) → numeral base limit cs ≡ o → numeral base limit cs ≡ none
+    go never none e = e
+    go never (some n) e = absurd (never n (unsigned base limit b16 cs n .0 e))
+
+-- and one number at most is spelled
+pub unsigned-one : (base limit : ℕ) → base ≤ noDigit → (cs : List ℕ) (m n : ℕ) → Numeral base limit cs m → Numeral base limit cs n → m ≡ n
+unsigned-one base limit b16 cs m n r s =
+    let e = unsigned base limit b16 cs m .1 r in
+    let d = unsigned base limit b16 cs n .1 s in
+    cc
+
+-- ---- a sign
+
+nil-minus {ℓ} : {X : Type ℓ} {l : List ℕ} → [] ≡ minusSign ∷ l → X
 nil-minus e = zero-one (cc)
 
-module _ (base top low : ℕ) (b16 : base ≤ 16) where
+module _ (base top low : ℕ) (b16 : base ≤ noDigit) where
   signed-sound : (cs : List ℕ) (i : Integer) → signedNumeral base top low cs ≡ some i → SignedNumeral base top low cs i
   unfolding signedNumeral
-  signed-sound [] i h = none-integer h
-  signed-sound (c ∷ cs) i h = sign (eqb c 45) refl h
+  signed-sound [] i h = none-some h
+  signed-sound (c ∷ cs) i h = sign (eqb c minusSign) refl h
     where
-      minus-case : c ≡ 45 → (o : Option ℕ) → spelledBy base low cs ≡ o → asNeg o ≡ some i → SignedNumeral base top low (c ∷ cs) i
-      minus-case e none eo h = none-integer h
+      minus-case : c ≡ minusSign → (o : Option ℕ) → spelledBy base low cs ≡ o → asNeg o ≡ some i → SignedNumeral base top low (c ∷ cs) i
+      minus-case e none eo h = none-some h
       minus-case e (some n) eo h =
           let ei : i ≡ neg n = cc in
           rw ei (record { digits = cs; whole = ap (λ k. k ∷ cs) e; is-spelled = spelled base low cs n .0 eo })
 
       plus-case : (o : Option ℕ) → numeral base top (c ∷ cs) ≡ o → asPos o ≡ some i → SignedNumeral base top low (c ∷ cs) i
-      plus-case none eo h = none-integer h
+      plus-case none eo h = none-some h
       plus-case (some n) eo h =
           let ei : i ≡ pos n = cc in
           rw ei (numeral-sound base top (c ∷ cs) n eo)
 
-      sign : (b : Bool) → eqb c 45 ≡ b → cond b (asNeg (spelledBy base low cs)) (asPos (numeral base top (c ∷ cs))) ≡ some i → SignedNumeral base top low (c ∷ cs) i
-      sign true e h = minus-case (eqb-true c 45 e) (spelledBy base low cs) refl h
+      sign : (b : Bool) → eqb c minusSign ≡ b → cond b (asNeg (spelledBy base low cs)) (asPos (numeral base top (c ∷ cs))) ≡ some i → SignedNumeral base top low (c ∷ cs) i
+      sign true e h = minus-case (eqb-true c minusSign e) (spelledBy base low cs) refl h
       sign false e h = plus-case (numeral base top (c ∷ cs)) refl h
 
   signed-complete : (cs : List ℕ) (i : Integer) → SignedNumeral base top low cs i → signedNumeral base top low cs ≡ some i
   unfolding signedNumeral
   signed-complete [] (pos n) s = absurd (numeral-chars base top b16 (λ c. true) tt (λ c t. tt) s)
   signed-complete (c ∷ cs) (pos n) s =
-      let t = numeral-chars base top b16 (λ c. not (eqb c 45)) tt (λ c t. digit-apart base 45 b16 (unfold isDigit in refl) c t) s in
-      rw (T→false (eqb c 45) (and-yes (not (eqb c 45)) _ t .0), numeral-read base top b16 s)
+      let t = numeral-chars base top b16 (λ c. not (eqb c minusSign)) tt (λ c t. digit-apart base minusSign b16 (unfold isDigit in refl) c t) s in
+      rw (T→false (eqb c minusSign) (and-yes (not (eqb c minusSign)) _ t .0), numeral-read base top b16 s)
   signed-complete [] (neg n) s = nil-minus (s .whole)
   signed-complete (c ∷ cs) (neg n) s =
-      let e : c ≡ 45 = (let w : c ∷ cs ≡ 45 ∷ s .digits = s .whole in cc) in
-      let d : cs ≡ s .digits = (let w : c ∷ cs ≡ 45 ∷ s .digits = s .whole in cc) in
+      let e : c ≡ minusSign = (let w : c ∷ cs ≡ minusSign ∷ s .digits = s .whole in cc) in
+      let d : cs ≡ s .digits = (let w : c ∷ cs ≡ minusSign ∷ s .digits = s .whole in cc) in
       let r : spelledBy base low cs ≡ some n = ap (spelledBy base low) d ∙ spelled base low (s .digits) n .1 (s .is-spelled) in
       rw (e, r)
 
   pub signed : (cs : List ℕ) (i : Integer) → (signedNumeral base top low cs ≡ some i) ↔ SignedNumeral base top low cs i
   signed cs i = (signed-sound cs i, signed-complete cs i)
 
--- two whole numbers differ by a multiple of 65,536
-abbrev pub Congruent : Integer → Integer → Type 0
-Congruent (pos m) (pos n) = m % 65536 ≡ n % 65536
-Congruent (pos m) (neg n) = (m + n) % 65536 ≡ 0
-Congruent (neg m) (pos n) = (m + n) % 65536 ≡ 0
-Congruent (neg m) (neg n) = m % 65536 ≡ n % 65536
+  pub signed-one : (cs : List ℕ) (i j : Integer) → SignedNumeral base top low cs i → SignedNumeral base top low cs j → i ≡ j
+  signed-one cs i j r s =
+      let e = signed-complete cs i r in
+      let d = signed-complete cs j s in
+      cc
 
--- from -32,768 up to 32,767
-abbrev pub Short16 : Integer → Type 0
-Short16 (pos n) = n ≤ 32767
-Short16 (neg n) = n ≤ 32768
+  pub signed-none : (cs : List ℕ) → (signedNumeral base top low cs ≡ none) ↔ ((i : Integer) → SignedNumeral base top low cs i → ⊥)
+  signed-none cs = (λ e i r. none-some (sym e ∙ signed-complete cs i r), λ never. go never (signedNumeral base top low cs) refl)
+    where
+      go : ((i : Integer) → SignedNumeral base top low cs i → ⊥) → (o : Option Integer) → signedNumeral base top low cs ≡ o → signedNumeral base top low cs ≡ none
+      go never none e = e
+      go never (some i) e = absurd (never i (signed-sound cs i e))
 
-pub wrap-below : (i : Integer) → wrap16 i < 65536
+-- ---- sixteen bits
+
+pub wrap-below : (i : Integer) → wrap16 i < modulus16
 unfolding wrap16
 wrap-below (pos n) = omega arith
 wrap-below (neg n) = omega arith
@@ -94,16 +121,16 @@ wrap-below (neg n) = omega arith
 -- what is kept means a signed 16-bit number that differs from the one read by a multiple of 65,536
 pub wrap-means : (i : Integer) → Short16 (meaning16 (wrap16 i)) × Congruent (meaning16 (wrap16 i)) i
 unfolding wrap16 meaning16
-wrap-means (pos n) = go (ltb (n % 65536) 32768) refl
+wrap-means (pos n) = go (ltb (n % modulus16) half16) refl
   where
-    go : (b : Bool) → ltb (n % 65536) 32768 ≡ b → Short16 (cond b (pos (n % 65536)) (neg (65536 - n % 65536))) × Congruent (cond b (pos (n % 65536)) (neg (65536 - n % 65536))) (pos n)
-    go true e = let h : n % 65536 < 32768 = ltb-true (n % 65536) 32768 e in (omega arith, omega arith)
-    go false e = let h : 32768 ≤ n % 65536 = ltb-false (n % 65536) 32768 e in (omega arith, omega arith)
-wrap-means (neg n) = go (ltb w 32768) refl
+    go : (b : Bool) → ltb (n % modulus16) half16 ≡ b → Short16 (cond b (pos (n % modulus16)) (neg (modulus16 - n % modulus16))) × Congruent (cond b (pos (n % modulus16)) (neg (modulus16 - n % modulus16))) (pos n)
+    go true e = let h : n % modulus16 < half16 = ltb-true (n % modulus16) half16 e in (omega arith, omega arith)
+    go false e = let h : half16 ≤ n % modulus16 = ltb-false (n % modulus16) half16 e in (omega arith, omega arith)
+wrap-means (neg n) = go (ltb w half16) refl
   where
     w : ℕ
-    w = (65536 - n % 65536) % 65536
+    w = (modulus16 - n % modulus16) % modulus16
 
-    go : (b : Bool) → ltb w 32768 ≡ b → Short16 (cond b (pos w) (neg (65536 - w))) × Congruent (cond b (pos w) (neg (65536 - w))) (neg n)
-    go true e = let h : w < 32768 = ltb-true w 32768 e in (omega arith, omega arith)
-    go false e = let h : 32768 ≤ w = ltb-false w 32768 e in (omega arith, omega arith)
+    go : (b : Bool) → ltb w half16 ≡ b → Short16 (cond b (pos w) (neg (modulus16 - w))) × Congruent (cond b (pos w) (neg (modulus16 - w))) (neg n)
+    go true e = let h : w < half16 = ltb-true w half16 e in (omega arith, omega arith)
+    go false e = let h : half16 ≤ w = ltb-false w half16 e in (omega arith, omega arith)

@@ -1,4 +1,5 @@
--- Numerals, computed: what is read of characters, or that they are none. `Numbers.Laws` proves it the relation.
+-- Numerals, computed: the number that characters spell, or that they spell none. `Numbers.Laws` proves these the relations of
+-- Numbers/Numeral.
 -- Assumes nothing.
 use Prim.Native.Nat.{ℕ}
 use mathlib.Core.Bool.{cond, _&&_}
@@ -8,8 +9,6 @@ use lib.Dec.{leb, eqb}
 use Rattle.paper.specs.Lists.{full}
 use Rattle.paper.specs.Text.Scalar.{plusSign, minusSign}
 use Rattle.paper.specs.Numbers.Numeral.{isDigit, valueAfter, Integer, pos, neg}
-
--- ---- numbers
 
 abbrev pub dropPlus : List ℕ → List ℕ
 dropPlus [] = []

@@ -1,4 +1,4 @@
--- The answer to an unk.def, computed. `Unk.Law` proves it the relation `UnkFits`.
+-- The answer to an unk.def, computed. `Unk.Refused` proves it the relation `UnkAnswered`.
 -- Assumes nothing.
 use Prim.Native.Nat.{ℕ, suc, _%_}
 use mathlib.Core.Bool.{Bool, true, false, cond}
@@ -10,8 +10,9 @@ use Rattle.paper.specs.Sizes.{maxTextBytes, maxUnkEntries, maxU32, maxI3
 use Rattle.paper.specs.Refusals.{textLong, textIllFormed, unkFields, unkNumber, unkEntriesFull}
 use Rattle.paper.specs.Lists.{empty, cut, is, joinWith}
 use Rattle.paper.specs.Text.Scalar.{lf, cr, comma}
-use Rattle.paper.specs.Numbers.Numeral.{Integer, wrap16}
-use Rattle.paper.specs.Unk.Entry.{Entry, Unk, unkOf}
+use Rattle.paper.specs.Numbers.Numeral.{Integer, decimal, modulus16, wrap16}
+use Rattle.paper.specs.Unk.Entry.{Entry, nul, unkOf}
+use Rattle.paper.specs.Unk.Bad.{UnkAnswer, accepted, refused}
 use Rattle.paper.specs.Computed.Decode.{Text, broken, chars, decode}
 use Rattle.paper.specs.Computed.Numeral.{numeral, signedNumeral}
 
@@ -38,7 +39,7 @@ fromUnkNumbers name none r c ds = no-entry unkNumber
 fromUnkNumbers name (some l) none c ds = no-entry unkNumber
 fromUnkNumbers name (some l) (some r) none ds = no-entry unkNumber
 fromUnkNumbers name (some l) (some r) (some c) ds =
-    entry (record { category = name; left = l % 65536; right = r % 65536; cost = wrap16 c; details = joinWith 0 ds })
+    entry (record { category = name; left = l % modulus16; right = r % modulus16; cost = wrap16 c; details = joinWith nul ds })
 
 unfoldable pub fromFields : List (List ℕ) → UnkFound
 unfolding numeral signedNumeral wrap16
@@ -47,7 +48,7 @@ fromFields (a ∷ []) = no-entry unkFields
 fromFields (a ∷ b ∷ []) = no-entry unkFields
 fromFields (a ∷ b ∷ c ∷ []) = no-entry unkFields
 fromFields (a ∷ b ∷ c ∷ d ∷ ds) =
-    fromUnkNumbers a (numeral 10 maxU32 b) (numeral 10 maxU32 c) (signedNumeral 10 maxI32 lowI32 d) ds
+    fromUnkNumbers a (numeral decimal maxU32 b) (numeral decimal maxU32 c) (signedNumeral decimal maxI32 lowI32 d) ds
 
 -- the entry that a line says, or what is wrong with it: 23 or 24
 unfoldable pub unkLineOf : List ℕ → UnkFound
@@ -77,11 +78,6 @@ unfoldable pub readEntries : ℕ → List (List ℕ) → Entries
 unfolding unkLineOf
 readEntries k [] = entries-are []
 readEntries k (cs ∷ css) = enterUnk k (unkLineOf cs) (λ j. readEntries j css)
-
-pub data UnkAnswer : Type 0 where
-  accepted : Unk → UnkAnswer
-  -- number and place
-  refused : ℕ → ℕ → UnkAnswer
 
 abbrev pub answerUnk : List (List ℕ) → Entries → UnkAnswer
 answerUnk names (entries-are es) = accepted (unkOf names es)

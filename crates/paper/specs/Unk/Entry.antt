@@ -1,23 +1,27 @@
--- "unk.def": its lines, what a line says, what entries say, and which texts fit.
+-- "unk.def": its lines, what a line says, what entries say, which texts fit, and what is found by number.
 -- Assumes nothing.
-use Prim.Native.Nat.{ℕ, suc, _+_, _%_, _≤_}
+use Prim.Native.Nat.{ℕ, suc, _+_, _%_, _<_, _≤_}
 use mathlib.Core.Path.{_≡_}
-use mathlib.Core.Bool.{Bool, false, not, cond}
+use mathlib.Core.Logic.{_↔_}
+use mathlib.Core.Bool.{Bool, true, false, not, cond, _&&_}
+use mathlib.Core.Option.{Option, some, Option·map}
 use mathlib.Core.List.{List, [], _∷_, _++_, map}
-use lib.Dec.{T}
-use lib.ListN.{length, take, drop}
-use Rattle.paper.specs.Sizes.{maxTextBytes, maxUnkEntries, maxU32, maxI32, lowI32}
-use Rattle.paper.specs.Lists.{empty, all, joined, same, is, without, joinWith}
+use lib.Dec.{T, ltb, eqb}
+use lib.ListN.{length, take, drop, getElem?}
+use Rattle.paper.specs.Sizes.{maxTextBytes, maxUnkEntries}
+use Rattle.paper.specs.Lists.{empty, all, any, joined, same, is, without, joinWith}
 use Rattle.paper.specs.Text.Scalar.{utf8, isScalar, lf, cr, comma}
 use Rattle.paper.specs.Numbers.Bytes.{le, value}
-use Rattle.paper.specs.Numbers.Numeral.{Numeral, Integer, SignedNumeral, wrap16}
+use Rattle.paper.specs.Numbers.Numeral.{U32, I32, Integer, modulus16, wrap16}
+
+-- ---- lines
 
 abbrev pub endsCR : List ℕ → Bool
 endsCR [] = false
 endsCR (c ∷ []) = is cr c
 endsCR (c ∷ d ∷ cs) = endsCR (d ∷ cs)
 
--- a line ends at LF or at CR LF; the last line may end with the text, and what stands behind the last LF is a line if there is any
+-- "one CR directly before LF is dropped, a last CR without LF stays, a final LF starts no line"
 pub data Lines : List ℕ → List (List ℕ) → Type 0 where
   no-line : Lines [] []
   last : {cs : List ℕ} → T (not (empty cs)) → T (without lf cs) → Lines cs (cs ∷ [])
@@ -34,29 +38,44 @@ pub record Entry : Type 0 where
   pub cost : ℕ
   pub details : List ℕ
 
--- fields between commas: category, left, right, cost and the details, which NUL joins
+abbrev pub nul : ℕ
+nul = 0x00
+
+-- "Split at commas: category, left, right (u32), cost (i32, sign allowed), details. left and right are kept modulo 65,536; cost modulo 65,536
+-- as a signed 16-bit number. Details are the remaining fields joined by NUL."
 pub record UnkLine (cs : List ℕ) (e : Entry) : Type 0 where
-  pub field₁ : List ℕ
-  pub field₂ : List ℕ
-  pub field₃ : List ℕ
+  pub leftField : List ℕ
+  pub rightField : List ℕ
+  pub costField : List ℕ
   pub more : List (List ℕ)
-  pub whole : cs ≡ joinWith comma (e .category ∷ field₁ ∷ field₂ ∷ field₃ ∷ more)
-  pub parted : T (all (without comma) (e .category ∷ field₁ ∷ field₂ ∷ field₃ ∷ more))
-  pub number₁ : ℕ
-  pub lefts : Numeral 10 maxU32 field₁ number₁
-  pub number₂ : ℕ
-  pub rights : Numeral 10 maxU32 field₂ number₂
-  pub number₃ : Integer
-  pub costs : SignedNumeral 10 maxI32 lowI32 field₃ number₃
-  pub left-is : e .left ≡ number₁ % 65536
-  pub right-is : e .right ≡ number₂ % 65536
-  pub cost-is : e .cost ≡ wrap16 number₃
-  pub details-are : e .details ≡ joinWith 0 more
+  pub whole : cs ≡ joinWith comma (e .category ∷ leftField ∷ rightField ∷ costField ∷ more)
+  pub parted : T (all (without comma) (e .category ∷ leftField ∷ rightField ∷ costField ∷ more))
+  pub leftNumber : ℕ
+  pub rightNumber : ℕ
+  pub costNumber : Integer
+  pub left-read : U32 leftField leftNumber
+  pub right-read : U32 rightField rightNumber
+  pub cost-read : I32 costField costNumber
+  pub left-is : e .left ≡ leftNumber % modulus16
+  pub right-is : e .right ≡ rightNumber % modulus16
+  pub cost-is : e .cost ≡ wrap16 costNumber
+  pub details-are : e .details ≡ joinWith nul more
+
+-- an entry's numbers have 16 bits
+pub record Sixteen (e : Entry) : Type 0 where
+  pub left-fits : e .left < modulus16
+  pub right-fits : e .right < modulus16
+  pub cost-fits : e .cost < modulus16
 
 -- ---- what entries say
 
+-- the length before an entry's details takes four bytes
+abbrev pub lengthBytes : ℕ
+lengthBytes = 4
+
+-- the details "behind a 4-byte little-endian length"
 unfoldable pub stored : Entry → List ℕ
-stored e = le 4 (length (e .details)) ++ e .details
+stored e = le lengthBytes (length (e .details)) ++ e .details
 
 -- where each begins, from `at` on
 abbrev pub offsetsFrom : ℕ → List (List ℕ) → List ℕ
@@ -106,8 +125,34 @@ pub record UnkFits (names : List (List ℕ)) (bytes : List ℕ) (u : Unk) : Type
   pub few : length entries ≤ maxUnkEntries
   pub says : u ≡ unkOf names entries
 
--- ---- the details of an entry, from the store
+-- ---- by number, from 0; `none` is refusal 15, "category, definition or unk entry number unknown"
+
+-- left, right and cost of entry k
+abbrev pub wordOf : Unk → ℕ → Option (ℕ × ℕ × ℕ)
+wordOf u k = getElem? (u .wordEntries) k
 
 -- four bytes say a length, and so many bytes follow
 unfoldable pub detailsAt : List ℕ → ℕ → List ℕ
-detailsAt store at = take (value (take 4 (drop at store))) (drop (at + 4) store)
+detailsAt store at = take (value (take lengthBytes (drop at store))) (drop (at + lengthBytes) store)
+
+-- "the joined details of an entry", from the store
+unfoldable pub detailsOf : Unk → ℕ → Option (List ℕ)
+unfolding detailsAt
+detailsOf u k = Option·map (detailsAt (u .store)) (getElem? (u .offsets) k)
+
+-- the numbers of category c's entries
+abbrev pub entriesOf : Unk → ℕ → Option (List ℕ)
+entriesOf u c = getElem? (u .members) c
+
+-- each is below all behind it
+abbrev pub rises : List ℕ → Bool
+rises [] = true
+rises (k ∷ ks) = all (ltb k) ks && rises ks
+
+abbrev pub Listed : ℕ → List ℕ → Type 0
+Listed k ks = T (any (eqb k) ks)
+
+-- "A category's entries are those whose first field equals its name, ascending"
+pub record CategoryEntries (name : List ℕ) (es : List Entry) (ks : List ℕ) : Type 0 where
+  pub ascending : T (rises ks)
+  pub exactly : (k : ℕ) → Listed k ks ↔ ((e : Entry) × (getElem? es k ≡ some e) × (e .category ≡ name))
