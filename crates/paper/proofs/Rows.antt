@@ -1,3 +1,8 @@
 pub mod Rising
-pub mod Cover
+pub mod Boundaries
 pub mod Sizes
+pub mod Covered
+pub mod Decided
+pub mod Search
+pub mod Flat
+pub mod Lookups

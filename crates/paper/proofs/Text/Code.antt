@@ -15,7 +15,7 @@ use borrow.Author.Tests.{eqb-true, le-leb, lt-leb, leb-true, leb-false}
 use Rattle.paper.specs.Lists.{all}
 use Rattle.paper.specs.Text.Scalar.{between, isScalar, utf8Of, utf8}
 use Rattle.paper.specs.Computed.Decode.{First, bad, good, lowest, highest, isTail, two, three, four, first, Text, broken, chars, consText, onward, decodeFrom}
-use Rattle.paper.proofs.Lists.Facts.{T→true, true→T}
+use Rattle.paper.proofs.Lists.Facts.{T→true, true→T, or-right}
 use Rattle.paper.proofs.CharDef.Sound.{zero-one}
 
 yes-between : (lo hi a : ℕ) → lo ≤ a → a ≤ hi → T (between lo hi a)
@@ -206,10 +206,6 @@ broken-chars e = zero-one (cc)
 scalar-low : (c : ℕ) → c ≤ 0xD7FF → T (isScalar c)
 unfolding isScalar
 scalar-low c h = rw (T→true (between 0 0xD7FF c) (yes-between 0 0xD7FF c (omega arith) h)) tt
-
-or-right : (a b : Bool) → T b → T (a || b)
-or-right true b t = tt
-or-right false b t = t
 
 scalar-high : (c : ℕ) → 0xE000 ≤ c → c ≤ 0x10FFFF → T (isScalar c)
 unfolding isScalar
