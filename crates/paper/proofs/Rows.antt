@@ -5,4 +5,7 @@ pub mod Covered
 pub mod Decided
 pub mod Search
 pub mod Flat
+pub mod Build
+pub mod Lookup
+pub mod AsBuilt
 pub mod Lookups

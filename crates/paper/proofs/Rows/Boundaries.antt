@@ -56,7 +56,7 @@ bounds-any b (g ∷ gs) =
 
 -- ---- ascending
 
-from-rising : (l : List ℕ) → T (rising l) → T (risingFrom 0 l)
+pub from-rising : (l : List ℕ) → T (rising l) → T (risingFrom 0 l)
 from-rising [] t = tt
 from-rising (a ∷ l) t = yes-and (leb 0 a) (risingFrom (suc a) l) (yes-leb {b = a} zero-le) (on a l t)
   where

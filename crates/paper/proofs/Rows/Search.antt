@@ -19,8 +19,8 @@ use Rattle.paper.proofs.Rows.Rising.{risingFrom, boundaries-rise, outsi
 
 -- ---- among ascending boundaries
 
-later : (b : ℕ) {c i : ℕ} {bs : List ℕ} → RowFound bs c i → RowFound (b ∷ bs) c (suc i)
-later b f = record { inside = suc-le-suc (f .inside); up-to = f .up-to; next-above = λ h. f .next-above (le-of-suc-le-suc h) }
+pub found-later : (b : ℕ) {c i : ℕ} {bs : List ℕ} → RowFound bs c i → RowFound (b ∷ bs) c (suc i)
+found-later b f = record { inside = suc-le-suc (f .inside); up-to = f .up-to; next-above = λ h. f .next-above (le-of-suc-le-suc h) }
 
 earlier : {b c i : ℕ} {bs : List ℕ} → RowFound (b ∷ bs) c (suc i) → RowFound bs c i
 earlier f = record { inside = le-of-suc-le-suc (f .inside); up-to = f .up-to; next-above = λ h. f .next-above (suc-le-suc h) }
@@ -63,7 +63,7 @@ counted b c (x ∷ bs) h t = go (leb x c) refl (counted x c bs)
 
     go : (z : Bool) → leb x c ≡ z → (x ≤ c → T (risingFrom (suc x) bs) → RowFound (x ∷ bs) c (length (select (λ x. leb x c) bs)))
         → RowFound (b ∷ x ∷ bs) c (length (cond z (x ∷ select (λ x. leb x c) bs) (select (λ x. leb x c) bs)))
-    go true e ih = later b (ih (leb-true x c e) (g .1))
+    go true e ih = found-later b (ih (leb-true x c e) (g .1))
     go false e ih =
         let l : c < x = leb-false x c e in
         rw (above-none (suc x) c bs (omega arith) (g .1)) (record { inside = suc-le-suc zero-le; up-to = h; next-above = λ k. l })
