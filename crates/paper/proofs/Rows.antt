@@ -8,4 +8,6 @@ pub mod Flat
 pub mod Build
 pub mod Lookup
 pub mod AsBuilt
+pub mod Lowest
+pub mod Numbers
 pub mod Lookups

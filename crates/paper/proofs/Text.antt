@@ -1,3 +1,4 @@
+pub mod Scalar
 pub mod Code
 pub mod Prefix
 pub mod Bytes

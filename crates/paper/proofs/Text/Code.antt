@@ -15,11 +15,9 @@ use borrow.Author.Tests.{eqb-true, le-leb, lt-leb, leb-true, leb-false}
 use Rattle.paper.specs.Lists.{all}
 use Rattle.paper.specs.Text.Scalar.{between, isScalar, utf8Of, utf8}
 use Rattle.paper.specs.Computed.Decode.{First, bad, good, lowest, highest, isTail, two, three, four, first, Text, broken, chars, consText, onward, decodeFrom}
-use Rattle.paper.proofs.Lists.Facts.{T→true, true→T, or-right}
+use Rattle.paper.proofs.Lists.Facts.{T→true, true→T}
 use Rattle.paper.proofs.CharDef.Sound.{zero-one}
-
-yes-between : (lo hi a : ℕ) → lo ≤ a → a ≤ hi → T (between lo hi a)
-yes-between lo hi a h k = yes-and (leb lo a) (leb a hi) (yes-leb h) (yes-leb k)
+use Rattle.paper.proofs.Text.Scalar.{yes-between, scalar-cases, scalar-top, scalar-low, scalar-high}
 
 -- ---- the four lengths
 
@@ -121,21 +119,6 @@ val-4 c h =
 
 -- ---- the decoder undoes the encoding
 
-scalar-cases : (c : ℕ) → T (isScalar c) → (c ≤ 0xD7FF) ⊎ ((0xE000 ≤ c) × (c ≤ 0x10FFFF))
-unfolding isScalar
-scalar-cases c t = go (or-yes (between 0 0xD7FF c) (between 0xE000 0x10FFFF c) t)
-  where
-    go : T (between 0 0xD7FF c) ⊎ T (between 0xE000 0x10FFFF c) → (c ≤ 0xD7FF) ⊎ ((0xE000 ≤ c) × (c ≤ 0x10FFFF))
-    go (inl a) = inl (leb-yes (and-yes (leb 0 c) (leb c 0xD7FF) a .1))
-    go (inr a) = let h = and-yes (leb 0xE000 c) (leb c 0x10FFFF) a in inr (leb-yes (h .0), leb-yes (h .1))
-
-scalar-top : (c : ℕ) → T (isScalar c) → c ≤ 0x10FFFF
-scalar-top c t = go (scalar-cases c t)
-  where
-    go : (c ≤ 0xD7FF) ⊎ ((0xE000 ≤ c) × (c ≤ 0x10FFFF)) → c ≤ 0x10FFFF
-    go (inl a) = omega arith
-    go (inr a) = a .1
-
 -- a scalar value that ED leads is below D800
 scalar-ed : (c : ℕ) → T (isScalar c) → 0xE0 + c / 4096 ≡ 0xED → 0x80 + c / 64 % 64 ≤ 0x9F
 scalar-ed c t e = go (scalar-cases c t)
@@ -202,14 +185,6 @@ bad-good e = zero-one (cc)
 
 pub broken-chars {ℓ} : {X : Type ℓ} {n : ℕ} {cs : List ℕ} → broken n ≡ chars cs → X
 broken-chars e = zero-one (cc)
-
-scalar-low : (c : ℕ) → c ≤ 0xD7FF → T (isScalar c)
-unfolding isScalar
-scalar-low c h = rw (T→true (between 0 0xD7FF c) (yes-between 0 0xD7FF c (omega arith) h)) tt
-
-scalar-high : (c : ℕ) → 0xE000 ≤ c → c ≤ 0x10FFFF → T (isScalar c)
-unfolding isScalar
-scalar-high c l h = or-right (between 0 0xD7FF c) (between 0xE000 0x10FFFF c) (yes-between 0xE000 0x10FFFF c l h)
 
 pub low-80 : (a b : ℕ) → lowest a ≤ b → 0x80 ≤ b
 unfolding lowest

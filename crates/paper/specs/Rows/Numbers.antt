@@ -71,3 +71,8 @@ categoryName store table count k =
     cond (leb count k) (refuses numberUnknown)
     (cond (ltb (length table) (slotWidth * suc k) || pastStore store (nameSlotOf (entryAt slotWidth table k))) (refuses tablesApart)
     (gives (nameSlotOf (entryAt slotWidth table k))))
+
+-- the name there
+abbrev pub nameOf : List ℕ → Looked NameSlot → Looked (List ℕ)
+nameOf store (gives p) = gives (nameIn store p)
+nameOf store (refuses n) = refuses n
