@@ -3,3 +3,5 @@ pub mod Further
 pub mod Unk
 pub mod Pack
 pub mod Rules
+pub mod White
+pub mod Rows

@@ -1,3 +1,13 @@
 pub mod Rising
-pub mod Cover
+pub mod Boundaries
 pub mod Sizes
+pub mod Covered
+pub mod Decided
+pub mod Search
+pub mod Flat
+pub mod Build
+pub mod Lookup
+pub mod AsBuilt
+pub mod Lowest
+pub mod Numbers
+pub mod Lookups

@@ -1,2 +1,5 @@
 pub mod Covering
 pub mod Flat
+pub mod Build
+pub mod Lookup
+pub mod Numbers

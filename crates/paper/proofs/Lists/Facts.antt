@@ -5,7 +5,7 @@ use native.Mathlib.Nat.{not-suc-le-zero}
 use native.Mathlib.Omega.{arith}
 use native.Mathlib.Decide.{ℕ-discrete}
 use mathlib.Core.Path.{_≡_, refl, sym, ap, _∙_, subst}
-use mathlib.Core.Bool.{Bool, true, false, not, cond, _&&_}
+use mathlib.Core.Bool.{Bool, true, false, not, cond, _&&_, _||_}
 use mathlib.Core.List.{List, [], _∷_, _++_}
 use lib.Dec.{T, eqb, eqb→eq}
 use mir.Facts.{and-yes, yes-and, not-T}
@@ -22,6 +22,14 @@ T→false false t = refl
 pub true→T : (b : Bool) → b ≡ true → T b
 true→T true e = tt
 true→T false e = subst T (sym e) tt
+
+pub or-left : (a b : Bool) → T a → T (a || b)
+or-left true b t = tt
+or-left false b t = absurd t
+
+pub or-right : (a b : Bool) → T b → T (a || b)
+or-right true b t = tt
+or-right false b t = t
 
 -- a test that k fails holds of no character that equals k
 pub apart : (p : ℕ → Bool) (k : ℕ) → p k ≡ false → (c : ℕ) → T (p c) → T (not (eqb c k))

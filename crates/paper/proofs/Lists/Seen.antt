@@ -7,7 +7,7 @@ use mathlib.Core.List.{List, [], _∷_, _++_, append-nil}
 use lib.Dec.{T, eqb, eqb→eq, eqb-refl}
 use mir.Facts.{and-yes, yes-and}
 use Rattle.paper.specs.Lists.{all, any, freshAfter, firstSeen, positionOf, same}
-use Rattle.paper.proofs.Lists.Facts.{true→T, all-imp}
+use Rattle.paper.proofs.Lists.Facts.{true→T, or-left, or-right, all-imp}
 
 pub same-eq : (s t : List ℕ) → T (same s t) → s ≡ t
 same-eq [] [] h = refl
@@ -22,14 +22,6 @@ same-eq (x ∷ s) (y ∷ t) h =
 pub same-refl : (s : List ℕ) → T (same s s)
 same-refl [] = tt
 same-refl (x ∷ s) = yes-and (eqb x x) (same s s) (eqb-refl x) (same-refl s)
-
-or-left : (a b : Bool) → T a → T (a || b)
-or-left true b t = tt
-or-left false b t = absurd t
-
-or-right : (a b : Bool) → T b → T (a || b)
-or-right true b t = tt
-or-right false b t = t
 
 or-swap : (a b c : Bool) → (a || b || c) ≡ (b || (a || c))
 or-swap true true c = refl

@@ -1,4 +1,5 @@
--- How many rows and row places there are at most, and how long a pack is.
+-- There are at most maxRows rows and maxRowPlaces row places, so an offset into them has 24 bits: two boundaries for each range and
+-- one more, and a row names a category once.
 -- Assumes nothing.
 use Prim.Native.Nat.{ℕ, zero, suc, _+_, _*_, _<_, _≤_, zero-le, suc-le-suc}
 use native.Mathlib.Nat.{not-suc-le-zero, le-refl, le-trans}
@@ -6,24 +7,19 @@ use native.Mathlib.Omega.{arith}
 use mathlib.Core.Path.{_≡_, refl, sym, ap, subst}
 use mathlib.Core.Bool.{Bool, true, false, not, cond, _||_}
 use mathlib.Core.List.{List, [], _∷_, map}
-use lib.Dec.{T, leb, ltb, eqb, eqb→eq}
-use lib.ListN.{length, length-map}
+use lib.Dec.{T, leb, ltb, eqb, eqb→eq, lit≤}
+use lib.ListN.{length}
 use mir.Facts.{and-yes, yes-and, or-yes, T-not, not-T, leb-yes, yes-leb, ltb-yes, yes-ltb}
 use borrow.Author.Tests.{eqb-true, eqb-false}
+use Rattle.paper.specs.Sizes.{maxCategories, maxRows, maxRowPlaces}
 use Rattle.paper.specs.Lists.{all, any, select, joined, sum, freshAfter, positionOf, same, distinct}
 use Rattle.paper.specs.CharDef.Reading.{Range, Reading, Within}
 use Rattle.paper.specs.Rows.Covering.{holds, named, defaults, orElse, categoriesAt, insert, ascending, boundaries, rows, default}
+use Rattle.paper.specs.Rows.Flat.{maxOffset}
 use Rattle.paper.specs.Pack.Rules.{numbered}
-use Rattle.paper.proofs.Lists.Facts.{true→T, all-append}
+use Rattle.paper.proofs.Lists.Facts.{true→T, or-left, or-right, all-append}
 use Rattle.paper.proofs.CharDef.Sound.{false→T}
-
-or-left : (a b : Bool) → T a → T (a || b)
-or-left true b t = tt
-or-left false b t = absurd t
-
-or-right : (a b : Bool) → T b → T (a || b)
-or-right true b t = tt
-or-right false b t = t
+use Rattle.paper.proofs.Rows.Boundaries.{row-for-each}
 
 any-select : (p q : ℕ → Bool) (l : List ℕ) → T (any p (select q l)) → T (any p l)
 any-select p q [] t = t
@@ -200,9 +196,9 @@ edges-length : (gs : List Range) → length (joined (map (λ g. g .lower ∷ (g 
 edges-length [] = refl
 edges-length (g ∷ gs) = let e = edges-length gs in omega arith
 
-pub boundaries-length : (r : Reading) → length (r .ranges) ≤ 2048 → length (boundaries r) ≤ 4097
+pub boundaries-fit : (r : Reading) → Within r → length (boundaries r) ≤ maxRows
 unfolding boundaries
-boundaries-length r h =
+boundaries-fit r w =
     let l : List ℕ = 0 ∷ joined (map (λ g. g .lower ∷ (g .upper + 1) ∷ []) (r .ranges)) in
     let k = ascending-length l in
     let e = edges-length (r .ranges) in
@@ -216,16 +212,21 @@ sum-bound n (k ∷ l) t =
     let b = sum-bound n l (h .1) in
     rw (native.Mathlib.Nat.suc-mul (length l) n) (omega arith)
 
-rows-short : (r : Reading) (bs : List ℕ) → T (numbered r) → length (r .names) ≤ 512 → T (all (λ k. leb (length k) 512) (map (categoriesAt r) bs))
-rows-short r [] t h = tt
-rows-short r (b ∷ bs) t h =
-    yes-and (leb (length (categoriesAt r b)) 512) _ (yes-leb (le-trans (row-length r b t) h)) (rows-short r bs t h)
+rows-short : (r : Reading) (bs : List ℕ) → T (numbered r) → Within r → T (all (λ k. leb (length k) maxCategories) (map (categoriesAt r) bs))
+rows-short r [] t w = tt
+rows-short r (b ∷ bs) t w =
+    yes-and (leb (length (categoriesAt r b)) maxCategories) _ (yes-leb (le-trans (row-length r b t) (w .categories-fit))) (rows-short r bs t w)
 
--- so an offset into the row places fits 24 bits
-pub row-places : (r : Reading) → Within r → T (numbered r) → sum (map length (rows r)) ≤ 2097664
+pub rows-fit : (r : Reading) → Within r → length (rows r) ≤ maxRows
+rows-fit r w = rw row-for-each (boundaries-fit r w)
+
+pub places-fit : (r : Reading) → Within r → T (numbered r) → sum (map length (rows r)) ≤ maxRowPlaces
 unfolding rows
-row-places r w t =
-    let a = sum-bound 512 (rows r) (rows-short r (boundaries r) t (w .categories-fit)) in
-    let b = boundaries-length r (w .ranges-fit) in
-    let c : length (map (categoriesAt r) (boundaries r)) ≡ length (boundaries r) = length-map (boundaries r) (categoriesAt r) in
+places-fit r w t =
+    let a = sum-bound maxCategories (rows r) (rows-short r (boundaries r) t w) in
+    let b : length (map (categoriesAt r) (boundaries r)) ≤ maxRows = rows-fit r w in
     omega arith
+
+-- an offset never overflows
+pub offsets-fit : maxRowPlaces ≤ maxOffset
+offsets-fit = lit≤ tt

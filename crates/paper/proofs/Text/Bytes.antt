@@ -1,4 +1,5 @@
--- A test that no byte from 80 up passes cuts bytes where it cuts characters.
+-- A test that no byte from 80 up passes cuts bytes where it cuts characters (`cut-utf8`): lines and comma fields need no decoding. Idea: all
+-- octets of a character from 80 up are from 80 up.
 -- Assumes nothing.
 use Prim.Native.Nat.{ℕ, _+_, _/_, _%_, _≤_}
 use native.Mathlib.Omega.{arith}
@@ -11,7 +12,7 @@ use borrow.Author.Tests.{leb-true, leb-false}
 use Rattle.paper.specs.Lists.{all, empty, push, cut}
 use Rattle.paper.specs.Text.Scalar.{utf8Of, utf8}
 use Rattle.paper.proofs.Lists.Facts.{T→false, un, all-imp, cut-run, pushAll}
-use Rattle.paper.proofs.Text.Code.{enc-1, enc-2, enc-3, enc-4}
+use Rattle.paper.proofs.Text.Lengths.{enc-1, enc-2, enc-3, enc-4}
 
 pub utf8-append : (s t : List ℕ) → utf8 (s ++ t) ≡ utf8 s ++ utf8 t
 unfolding utf8

@@ -1,35 +1,49 @@
--- "A flat entry is offset times 256 plus length": the row of a code point among rows, flat entries and their parts.
+-- "A flat entry is offset times 256 plus length, offset being the sum of the earlier rows' lengths": the row of a code point, its flat
+-- entry, the part of the pool that an entry names, and the flat table of a reading.
 -- Assumes nothing.
-use Prim.Native.Nat.{ℕ, suc, _+_, _*_, _/_, _%_}
-use mathlib.Core.Bool.{Bool, cond}
+use Prim.Native.Nat.{ℕ, zero, suc, _+_, _-_, _*_, _/_, _%_, _<_, _≤_}
+use mathlib.Core.Bool.{Bool}
 use mathlib.Core.List.{List, [], _∷_, map}
 use lib.Dec.{leb}
 use lib.ListN.{length, getD, take, drop}
-use Rattle.paper.specs.Sizes.{maxFlatRow}
-use Rattle.paper.specs.Lists.{all, sum}
+use Rattle.paper.specs.Sizes.{maxFlatRow, bmpSize}
+use Rattle.paper.specs.Lists.{all, select, joined, sum}
 use Rattle.paper.specs.CharDef.Reading.{Reading}
 use Rattle.paper.specs.Rows.Covering.{boundaries, rows}
 
--- ---- rows
+-- ---- the row of a code point
 
--- the row of the last boundary up to c; `found` where there is none
-abbrev pub lastRow : List ℕ → List ℕ → List (List ℕ) → ℕ → List ℕ
-lastRow found [] ws c = found
-lastRow found (b ∷ bs) [] c = found
-lastRow found (b ∷ bs) (w ∷ ws) c = lastRow (cond (leb b c) w found) bs ws c
+-- boundary i is at or below c, and the next one, if there is one, above: among ascending boundaries from 0 just one is
+pub record RowFound (bs : List ℕ) (c i : ℕ) : Type 0 where
+  pub inside : i < length bs
+  pub up-to : getD bs i 0 ≤ c
+  pub next-above : suc i < length bs → c < getD bs (suc i) 0
+
+-- its number: as many boundaries as are at or below c, but for it
+unfoldable pub rowNumber : List ℕ → ℕ → ℕ
+rowNumber bs c = length (select (λ b. leb b c) bs) - 1
 
 unfoldable pub evalRow : List ℕ → List (List ℕ) → ℕ → List ℕ
-evalRow bs ws c = lastRow [] bs ws c
-
--- how many boundaries stand before the last one up to c: `found` where there is none, counted from `i`
-abbrev pub lastFrom : ℕ → ℕ → List ℕ → ℕ → ℕ
-lastFrom found i [] c = found
-lastFrom found i (b ∷ bs) c = lastFrom (cond (leb b c) i found) (suc i) bs c
-
-unfoldable pub rowNumber : List ℕ → ℕ → ℕ
-rowNumber bs c = lastFrom 0 0 bs c
+unfolding rowNumber
+evalRow bs ws c = getD ws (rowNumber bs c) []
 
 -- ---- flat entries
+
+abbrev pub offsetUnit : ℕ
+offsetUnit = 256
+
+abbrev pub entry : ℕ → ℕ → ℕ
+entry offset len = offset * offsetUnit + len
+
+abbrev pub entryOffset : ℕ → ℕ
+entryOffset e = e / offsetUnit
+
+abbrev pub entryLength : ℕ → ℕ
+entryLength e = e % offsetUnit
+
+-- "the 24-bit offset": the greatest
+abbrev pub maxOffset : ℕ
+maxOffset = 0xFF_FFFF
 
 -- the sum of the lengths of the rows before row i
 unfoldable pub offsetOf : List (List ℕ) → ℕ → ℕ
@@ -39,12 +53,28 @@ unfoldable pub flatEntry : Reading → ℕ → ℕ
 unfolding offsetOf rows rowNumber boundaries
 flatEntry r c =
     let i = rowNumber (boundaries r) c in
-    offsetOf (rows r) i * 256 + length (getD (rows r) i [])
+    entry (offsetOf (rows r) i) (length (getD (rows r) i []))
 
 -- the part of the pool that an entry names
 unfoldable pub entryPart : ℕ → List ℕ → List ℕ
-entryPart e pool = take (e % 256) (drop (e / 256) pool)
+entryPart e pool = take (entryLength e) (drop (entryOffset e) pool)
 
 -- every row has maxFlatRow categories at most
 unfoldable pub shortRows : List (List ℕ) → Bool
 shortRows ws = all (λ w. leb (length w) maxFlatRow) ws
+
+-- ---- the flat table
+
+-- n numbers from i on
+abbrev pub counting : ℕ → ℕ → List ℕ
+counting i zero = []
+counting i (suc n) = i ∷ counting (suc i) n
+
+-- an entry for each code point of the BMP; the rows stand one behind another in the pool
+unfoldable pub flatIndex : Reading → List ℕ
+unfolding flatEntry
+flatIndex r = map (flatEntry r) (counting 0 bmpSize)
+
+unfoldable pub flatPool : Reading → List ℕ
+unfolding rows
+flatPool r = joined (rows r)

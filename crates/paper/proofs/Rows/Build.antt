@@ -1,0 +1,69 @@
+-- Rooms of the stated sizes are never below the exact needs, and 16 is given exactly when the rows are not all short.
+-- Assumes nothing.
+use Prim.Native.Nat.{ℕ, _≤_, _<_}
+use native.Mathlib.Omega.{arith}
+use mathlib.Core.Path.{_≡_, refl, sym, ap₂, _∙_}
+use mathlib.Core.Bool.{Bool, true, false, not, _&&_, _||_}
+use mathlib.Core.List.{List, [], _∷_, map}
+use mathlib.Core.Option.{some}
+use lib.Dec.{T, leb, ltb}
+use lib.ListN.{length}
+use borrow.Author.Tests.{leb-true, leb-false, lt-ltb, le-ltb}
+use Rattle.paper.specs.Sizes.{maxRows, maxRowPlaces, maxPackBytes, maxFlatRow, bmpSize}
+use Rattle.paper.specs.Lists.{all, any, sum}
+use Rattle.paper.specs.CharDef.Reading.{Reading, Within}
+use Rattle.paper.specs.Rows.Covering.{rows}
+use Rattle.paper.specs.Rows.Flat.{shortRows, flatPool}
+use Rattle.paper.specs.Rows.Build.{rowsNeeded, placesNeeded, rowOverlong, rowRoomShort, flatRoomShort, writeRoomShort, built, rowsBuilt, flatBuilt, packWritten}
+use Rattle.paper.specs.Pack.Rules.{PackRules, numbered}
+use Rattle.paper.proofs.Rows.Sizes.{boundaries-fit, places-fit}
+use Rattle.paper.proofs.Rows.Flat.{joined-length}
+use Rattle.paper.proofs.Pack.Size.{pack-length}
+
+above : (m n : ℕ) → ltb m n ≡ not (leb n m)
+above m n = go (leb n m) refl
+  where
+    go : (b : Bool) → leb n m ≡ b → ltb m n ≡ not b
+    go true e = le-ltb m n (leb-true n m e)
+    go false e = lt-ltb m n (leb-false n m e)
+
+-- 16 where not every row is short
+pub overlong-is : (r : Reading) → rowOverlong r ≡ not (shortRows (rows r))
+unfolding rowOverlong shortRows
+overlong-is r = go (rows r)
+  where
+    demorgan : (a b : Bool) → (not a || not b) ≡ not (a && b)
+    demorgan true b = refl
+    demorgan false b = refl
+
+    go : (ws : List (List ℕ)) → any (λ w. ltb maxFlatRow (length w)) ws ≡ not (all (λ w. leb (length w) maxFlatRow) ws)
+    go [] = refl
+    go (w ∷ ws) = ap₂ (λ x y. x || y) (above maxFlatRow (length w)) (go ws) ∙ demorgan (leb (length w) maxFlatRow) _
+
+-- as many places as the pool holds
+pub places-are : (r : Reading) → placesNeeded r ≡ length (flatPool r)
+unfolding placesNeeded flatPool
+places-are r = sym (joined-length (rows r))
+
+-- ---- rooms of the full sizes
+
+module _ (r : Reading) (k : PackRules r) where
+  enough-rows : ltb maxRows (rowsNeeded r) ≡ false
+  unfolding rowsNeeded
+  enough-rows = le-ltb maxRows _ (boundaries-fit r (k .limits))
+
+  enough-places : ltb maxRowPlaces (placesNeeded r) ≡ false
+  unfolding placesNeeded
+  enough-places = le-ltb maxRowPlaces _ (places-fit r (k .limits) (k .known))
+
+  pub rows-always : rowsBuilt (some r) maxRows maxRows maxRows maxRowPlaces ≡ built
+  unfolding rowsBuilt
+  rows-always = rw (enough-rows, enough-places)
+
+  pub flat-always : rowOverlong r ≡ false → flatBuilt (some r) bmpSize maxRowPlaces ≡ built
+  unfolding flatBuilt
+  flat-always e = rw (e, enough-places)
+
+  pub pack-always : packWritten (some r) maxPackBytes ≡ built
+  unfolding packWritten
+  pack-always = rw (le-ltb maxPackBytes _ (pack-length r (k .limits)))
