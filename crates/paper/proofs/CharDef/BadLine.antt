@@ -1,7 +1,7 @@
 -- A line is stopped by a number exactly where it is bad by that number: it fits nothing, or it fits and passes a limit. So it is bad by one
 -- number at most, and otherwise fits and keeps the limits.
 -- Assumes nothing.
-use Prim.Native.Nat.{ℕ}
+use Prim.Native.Nat.{ℕ, _≤_}
 use native.Mathlib.Omega.{arith}
 use mathlib.Core.Path.{_≡_, refl, sym, ap, _∙_, subst}
 use mathlib.Core.Logic.{_↔_, _≢_, _⊎_, inl, inr}
@@ -11,12 +11,12 @@ use mathlib.Core.List.{List, [], _∷_, _++_}
 use lib.Dec.{T, lit≤}
 use lib.ListN.{length}
 use Rattle.paper.specs.Sizes.{maxU32}
-use Rattle.paper.specs.Refusals.{rangeParts, categoryFields, categoryNumber}
+use Rattle.paper.specs.Refusals.{rangeParts, boundUnreadable, boundMark, categoryFields, categoryNumber, rangesFull, categoriesFull, nameBytesFull}
 use Rattle.paper.specs.Lists.{words}
 use Rattle.paper.specs.Text.Scalar.{isWhite, isSep, dot}
 use Rattle.paper.specs.CharDef.Line.{Line, LineFits, begins0x}
 use Rattle.paper.specs.CharDef.Reading.{Reading, readingOf, Within, EachFits, done, next, refused}
-use Rattle.paper.specs.CharDef.BadLine.{Body, Fields, last-field, more-fields, RangeFields, CategoryFields, Parts, one-part, two-parts, NoU32, neededFields, Misfit, many-parts, lower-bad, upper-bad, not-four, no-number, PastLimit, BadLine, misfit, past-limit}
+use Rattle.paper.specs.CharDef.BadLine.{Body, Fields, last-field, more-fields, RangeFields, CategoryFields, Parts, one-part, two-parts, NoU32, neededFields, Misfit, many-parts, lower-bad, upper-bad, not-four, no-number, BadBound, no-hex, mark, swapped, NoRoom, too-many, too-long, PastLimit, range-over, references-over, range-name, line-over, category-name, BadLine, misfit, past-limit}
 use Rattle.paper.specs.Computed.Numeral.{numeral}
 use Rattle.paper.specs.Computed.ReadText.{Found, found, wrong, BoundFound, parts, fromBounds, fromParts, rangeOf, fromNumbers, categoryOf, body, bodyLine, lineOf, Step, go-on, stop, enter, enterFound, verdict, readLines}
 use Rattle.paper.proofs.Lists.Facts.{T→true, T→false, true→T}
@@ -192,6 +192,34 @@ bad-line-one r cs n m a b =
     let e : verdict r cs ≡ stop n = bad-stops a in
     let d : verdict r cs ≡ stop m = bad-stops b in
     cc
+
+-- the number is from 4 to 13
+bound-number : {part : List ℕ} {n : ℕ} → BadBound part n → (boundUnreadable ≤ n) × (n ≤ boundMark)
+bound-number (no-hex f) = omega arith
+bound-number (mark h) = omega arith
+bound-number (swapped h) = omega arith
+
+misfit-number : {cs : List ℕ} {n : ℕ} → Misfit cs n → (rangeParts ≤ n) × (n ≤ categoryNumber)
+misfit-number (many-parts fs t) = omega arith
+misfit-number (lower-bad fs p b) = let h = bound-number b in omega arith
+misfit-number (upper-bad fs p g b) = let h = bound-number b in omega arith
+misfit-number (not-four fs ne) = omega arith
+misfit-number (no-number fs u) = omega arith
+
+room-number : {known : List (List ℕ)} {x : List ℕ} {n : ℕ} → NoRoom known x n → (categoriesFull ≤ n) × (n ≤ nameBytesFull)
+room-number (too-many new h) = omega arith
+room-number (too-long new h i) = omega arith
+
+past-number : {r : Reading} {l : Line} {n : ℕ} → PastLimit r l n → (rangesFull ≤ n) × (n ≤ nameBytesFull)
+past-number (range-over h) = omega arith
+past-number (references-over h i) = omega arith
+past-number (range-name h i f) = let k = room-number (f .over) in omega arith
+past-number (line-over h) = omega arith
+past-number (category-name h f) = let k = room-number (f .over) in omega arith
+
+pub bad-number : {r : Reading} {cs : List ℕ} {n : ℕ} → BadLine r cs n → (rangeParts ≤ n) × (n ≤ nameBytesFull)
+bad-number (misfit m) = let h = misfit-number m in omega arith
+bad-number (past-limit f p) = let h = past-number p in omega arith
 
 -- a line is bad, or it says a line with which the limits are kept
 pub bad-or-entered : (ls : List Line) (cs : List ℕ) → Within (readingOf ls)

@@ -181,9 +181,6 @@ hex-found part code h =
 none-some {ℓ} : {X : Type ℓ} {n : ℕ} → none ≡ some n → X
 none-some e = zero-one (cc)
 
-is-not {ℓ} : {X : Type ℓ} {v n : ℕ} → boundIs v ≡ noBound n → X
-is-not e = zero-one (cc)
-
 -- a bound, or what is wrong with it
 pub data Judged (part : List ℕ) : BoundFound → Type 0 where
   good : {b : ℕ} → Bound 0 part b → Judged part (boundIs b)
