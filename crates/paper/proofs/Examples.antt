@@ -2,3 +2,4 @@ pub mod CharDef
 pub mod Further
 pub mod Unk
 pub mod Pack
+pub mod Lines
