@@ -2,5 +2,9 @@ pub mod Complete
 pub mod Sound
 pub mod Whole
 pub mod Accepts
+pub mod Bodies
+pub mod Bounds
+pub mod Limits
+pub mod BadLine
 pub mod FirstBad
 pub mod Answers

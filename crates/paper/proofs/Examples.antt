@@ -5,3 +5,4 @@ pub mod Pack
 pub mod Rules
 pub mod White
 pub mod Rows
+pub mod Lines

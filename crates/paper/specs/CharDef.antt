@@ -1,3 +1,4 @@
 pub mod Line
 pub mod Reading
+pub mod BadLine
 pub mod Bad

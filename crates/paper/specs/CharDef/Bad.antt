@@ -1,14 +1,17 @@
--- The first bad line of a text, "A refused text names its first bad line": the lines before it, and what stands after it.
+-- The first bad line of a text, "A refused text names its first bad line", and what each answer to a text means: "Order: 2; 3; then lines
+-- from the top".
 -- Assumes nothing.
-use Prim.Native.Nat.{ℕ, zero, suc, _≤_}
+use Prim.Native.Nat.{ℕ, zero, suc, _<_, _≤_}
 use mathlib.Core.Path.{_≡_}
 use mathlib.Core.List.{List, [], _∷_, _++_}
 use lib.Dec.{T}
 use lib.ListN.{length, take}
-use Rattle.paper.specs.Lists.{cut}
-use Rattle.paper.specs.Text.Scalar.{lf}
-use Rattle.paper.specs.CharDef.Reading.{Reading, Fits, joinLF, noLF, isLF, accepted, refused}
-use Rattle.paper.specs.Computed.ReadText.{readText}
+use Rattle.paper.specs.Sizes.{maxTextBytes}
+use Rattle.paper.specs.Refusals.{textLong, textIllFormed}
+use Rattle.paper.specs.Lists.{all, cut}
+use Rattle.paper.specs.Text.Scalar.{isScalar, utf8, lf, WellFormed, LongestPrefix}
+use Rattle.paper.specs.CharDef.Reading.{Reading, Fits, joinLF, noLF, isLF, Answer, accepted, refused}
+use Rattle.paper.specs.CharDef.BadLine.{BadLine}
 
 -- ---- parts of a text
 
@@ -30,16 +33,26 @@ throughLine place bytes = joinLF (take place (cut isLF bytes))
 pub record FirstBad (n place : ℕ) (bytes : List ℕ) : Type 0 where
   pub from-one : 1 ≤ place
   pub there : place ≤ length (cut isLF bytes)
-  -- the line, without LF, stands behind the lines before it, and the text begins so
+  -- the line's characters, without LF, stand behind the lines before it, and the text begins so
   pub line : List ℕ
+  pub scalars : T (all isScalar line)
   pub one-line : T (noLF line)
-  pub through : throughLine place bytes ≡ linesBefore place bytes ++ line
+  pub through : throughLine place bytes ≡ linesBefore place bytes ++ utf8 line
   pub rest : List ℕ
   pub whole : bytes ≡ throughLine place bytes ++ rest
-  -- the lines before it are accepted by themselves
+  -- the lines before it are accepted by themselves, and it is bad after their reading
   pub reading : Reading
-  pub before : readText (linesBefore place bytes) ≡ accepted reading
-  -- nothing put after it and its LF makes the text acceptable
-  pub after : (u : List ℕ) (r : Reading) → Fits (throughLine place bytes ++ (lf ∷ u)) r → ⊥
-  -- what stands behind the line does not matter to the refusal
-  pub refusal : readText (throughLine place bytes) ≡ refused n place
+  pub before : Fits (linesBefore place bytes) reading
+  pub wrong : BadLine reading line n
+
+-- ---- answers
+
+-- number and place of what is wrong with a text
+pub data BadText : ℕ → ℕ → List ℕ → Type 0 where
+  too-long : {bytes : List ℕ} → maxTextBytes < length bytes → BadText textLong 0 bytes
+  ill-formed : {p : ℕ} {bytes : List ℕ} → length bytes ≤ maxTextBytes → (WellFormed bytes → ⊥) → LongestPrefix p bytes → BadText textIllFormed p bytes
+  bad-line : {n place : ℕ} {bytes : List ℕ} → length bytes ≤ maxTextBytes → WellFormed bytes → FirstBad n place bytes → BadText n place bytes
+
+pub data Answered (bytes : List ℕ) : Answer → Type 0 where
+  fitting : {r : Reading} → Fits bytes r → Answered bytes (accepted r)
+  refusing : {n place : ℕ} → BadText n place bytes → Answered bytes (refused n place)
