@@ -1,9 +1,4 @@
-pub mod WhiteBytes
-pub mod Table
-pub mod Bytes
-pub mod Shape
-pub mod Wf
-pub mod Value
-pub mod Laws
-pub mod Gaps
-pub mod Paper
+pub mod Octets
+pub mod Chars
+pub mod Prefix
+pub mod White

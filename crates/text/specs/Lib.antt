@@ -1,6 +1,2 @@
 pub mod Classes
-pub mod Utf8
-pub mod White
-pub mod Lead
-pub mod Decode
-pub mod WhiteBytes
+pub mod Answers
