@@ -1,48 +1,52 @@
-// Numbers, as the paper has them: u32 in digits, and the bounds of ranges. Parts of a text that reach past it are cut at its end.
+// Numbers, item 2 of the paper: u32 as Rust's library reads them, and the bounds of ranges. Each reader takes a part of
+// a text; a part that reaches past the text is cut at its end, and one that starts behind its end is empty.
+use paper::BOUND_MARK;
+use paper::BOUND_UNREADABLE;
 ghost use mathlib.Core.Path.{_≡_};
 ghost use mathlib.Core.Option.{some};
 ghost use Prim.Native.Nat.{ℕ, _+_, _≤_, _<_};
 ghost use lib.ListN.{length, take, drop};
+ghost use Rattle.paper.specs.Sizes.{maxU32};
 ghost use Rattle.paper.specs.Numbers.Numeral.{digitOf};
 ghost use Rattle.paper.specs.Computed.Numeral.{spelledBy, numeral};
 ghost use Rattle.paper.specs.Computed.ReadText.{strip0x, checkedBound, boundOf};
-ghost use Rattle.numeral.specs.Said.{saidNumber, saidBound, Least, DigitsIn};
+ghost use Rattle.numeral.specs.Said.{saidNumber, saidBound};
+ghost use Rattle.numeral.specs.Asked.{Least, DigitsIn};
 
+const DECIMAL: u64 = 10;
+
+const HEX: u64 = 16;
+
+// What a byte that is no digit of any base up to 16 counts as.
+const NO_DIGIT: u64 = 16;
+
+// The greatest u32, and the greatest code.
+const MAX_U32: u64 = 0xFFFF_FFFF;
+
+const MAX_U16: u64 = 0xFFFF;
+
+// The byte order mark and its bytes swapped, which are no bounds.
+const MARK: u16 = 0xFEFF;
+
+const SWAPPED_MARK: u16 = 0xFFFE;
+
+// Surrogates, and the character that stands for them.
+const FIRST_SURROGATE: u16 = 0xD800;
+
+const LAST_SURROGATE: u16 = 0xDFFF;
+
+const REPLACEMENT: u16 = 0xFFFD;
+
+// A u32, or none.
 pub enum Number {
     Value(u32),
     Bad,
 }
 
-// A bound of a range, or the number of its refusal, 5 or 6.
+// A bound of a range, or the number of its refusal. What is read of 16 bits keeps within 16 bits.
 pub enum Bound {
-    Code(u32),
+    Code(u16),
     NoBound(u32),
-}
-
-// The value of a digit of either case; 16 where the byte is none.
-fn digit_of(b: u8) -> u64
-    ensures { λ r. ⌜ r ≡ digitOf b ⌝ }
-{
-    let n = wide(b);
-    if n < 48 {
-        return 16;
-    }
-    if n < 58 {
-        return n - 48;
-    }
-    if n < 65 {
-        return 16;
-    }
-    if n < 71 {
-        return n - 55;
-    }
-    if n < 97 {
-        return 16;
-    }
-    if n < 103 {
-        return n - 87;
-    }
-    16
 }
 
 fn wide(b: u8) -> u64
@@ -51,13 +55,25 @@ fn wide(b: u8) -> u64
     b as u64
 }
 
+// The value of a digit of either case.
+fn digit_of(b: u8) -> u64
+    ensures { λ r. ⌜ r ≡ digitOf b ⌝ }
+{
+    match b {
+        b'0'..=b'9' => wide(b - b'0'),
+        b'A'..=b'F' => wide(b - b'A') + DECIMAL,
+        b'a'..=b'f' => wide(b - b'a') + DECIMAL,
+        _ => NO_DIGIT,
+    }
+}
+
 fn least(a: usize, b: usize) -> usize
     ensures { λ r. ⌜ Least a b r ⌝ }
 {
     if a < b { a } else { b }
 }
 
-// One or more digits, of a value up to the limit.
+// One or more digits, read to the last one, of a value up to the limit.
 fn parse_digits(text: &[u8], start: usize, end: usize, base: u64, limit: u64) -> Number
     requires { ⌜ DigitsIn (now text) end base limit ⌝ }
     ensures { λ r. ⌜ saidNumber r ≡ spelledBy base limit (drop start (take end (now (text .entry)))) ⌝ }
@@ -96,9 +112,9 @@ fn parse_number(text: &[u8], start: usize, end: usize, base: u64, limit: u64) ->
 }
 
 pub fn parse_u32(text: &[u8], start: usize, end: usize) -> Number
-    ensures { λ r. ⌜ saidNumber r ≡ numeral 10 0xFFFF_FFFF (drop start (take end (now (text .entry)))) ⌝ }
+    ensures { λ r. ⌜ saidNumber r ≡ numeral 10 maxU32 (drop start (take end (now (text .entry)))) ⌝ }
 {
-    parse_number(text, start, least(end, text.len()), 10, 0xFFFF_FFFF)
+    parse_number(text, start, least(end, text.len()), DECIMAL, MAX_U32)
 }
 
 // Past every `0x` in front.
@@ -122,23 +138,23 @@ fn past_0x(text: &[u8], start: usize, end: usize) -> usize
     at
 }
 
-// Surrogates stand for FFFD; FEFF and FFFE are refused.
-fn ucs2_to_unicode(code: u32) -> Bound
+// The character that a 16-bit code stands for in UTF-16, where it stands alone.
+pub fn ucs2_to_unicode(code: u16) -> Bound
     ensures { λ r. ⌜ saidBound r ≡ checkedBound (some code) ⌝ }
 {
-    if code == 0xFEFF {
-        return Bound::NoBound(6);
+    if code == MARK {
+        return Bound::NoBound(BOUND_MARK);
     }
-    if code == 0xFFFE {
-        return Bound::NoBound(6);
+    if code == SWAPPED_MARK {
+        return Bound::NoBound(BOUND_MARK);
     }
-    if code < 0xD800 {
+    if code < FIRST_SURROGATE {
         return Bound::Code(code);
     }
-    if code < 0xE000 {
-        return Bound::Code(0xFFFD);
+    if LAST_SURROGATE < code {
+        return Bound::Code(code);
     }
-    Bound::Code(code)
+    Bound::Code(REPLACEMENT)
 }
 
 pub fn parse_hex_codepoint(text: &[u8], start: usize, end: usize) -> Bound
@@ -146,8 +162,8 @@ pub fn parse_hex_codepoint(text: &[u8], start: usize, end: usize) -> Bound
 {
     let stop = least(end, text.len());
     let at = past_0x(text, start, stop);
-    match parse_number(text, at, stop, 16, 0xFFFF) {
-        Number::Value(code) => ucs2_to_unicode(code),
-        Number::Bad => Bound::NoBound(5),
+    match parse_number(text, at, stop, HEX, MAX_U16) {
+        Number::Value(code) => ucs2_to_unicode(code as u16),
+        Number::Bad => Bound::NoBound(BOUND_UNREADABLE),
     }
 }
