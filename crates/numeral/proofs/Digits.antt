@@ -13,9 +13,9 @@ use lib.ListN.{length, take, drop, getD}
 use borrow.Author.Tests.{lt-ltb, le-ltb, le-leb, lt-leb, leb-true, leb-false, ne-eqb}
 use Rattle.paper.specs.Sizes.{maxU32}
 use Rattle.paper.specs.Lists.{all, full}
-use Rattle.paper.specs.Text.Scalar.{between, plusSign}
+use Rattle.paper.specs.Text.Scalar.{between, plusSign, minusSign}
 use Rattle.paper.specs.Numbers.Numeral.{digitOf, isDigit, valueAfter}
-use Rattle.paper.specs.Computed.Numeral.{spelledBy, numeral}
+use Rattle.paper.specs.Computed.Numeral.{spelledBy, numeral, asNeg, asPos, signedNumeral}
 use Rattle.paper.proofs.Lists.Parts.{nothing, uncons}
 use Rattle.numeral.specs.DigitLoop.{digitLoop}
 
@@ -142,6 +142,23 @@ module _ (base limit : ℕ) (l : List ℕ) (at end : ℕ) (h : end ≤ at) where
   pub no-number : numeral base limit (drop at (take end l)) ≡ none
   unfolding numeral
   no-number = rw (nothing l at end h)
+
+-- ---- `-`
+
+module _ (base top low : ℕ) (l : List ℕ) (at end : ℕ) where
+  pub no-signed : end ≤ at → signedNumeral base top low (drop at (take end l)) ≡ none
+  unfolding signedNumeral
+  no-signed h = rw (nothing l at end h)
+
+  pub minus-sign : at < end → end ≤ length l → getD l at 0 ≡ minusSign
+      → signedNumeral base top low (drop at (take end l)) ≡ asNeg (spelledBy base low (drop (at + 1) (take end l)))
+  unfolding signedNumeral
+  minus-sign h k e = rw (uncons l at end h k, e)
+
+  pub no-minus : at < end → end ≤ length l → (getD l at 0 ≡ minusSign → ⊥)
+      → signedNumeral base top low (drop at (take end l)) ≡ asPos (numeral base top (drop at (take end l)))
+  unfolding signedNumeral
+  no-minus h k e = rw (uncons l at end h k, ne-eqb (getD l at 0) minusSign e)
 
 -- ---- room for the next value
 

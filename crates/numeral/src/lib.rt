@@ -1,4 +1,4 @@
-// Numbers, item 2 of the paper: u32 as Rust's library reads them, and the bounds of ranges. Each reader takes a part of
+// Numbers, item 2 of the paper: u32 and i32 as Rust's library reads them, and the bounds of ranges. Each reader takes a part of
 // a text; a part that reaches past the text is cut at its end, and one that starts behind its end is empty.
 use paper::BOUND_MARK;
 use paper::BOUND_UNREADABLE;
@@ -6,11 +6,11 @@ ghost use mathlib.Core.Path.{_≡_};
 ghost use mathlib.Core.Option.{some};
 ghost use Prim.Native.Nat.{ℕ, _+_, _≤_, _<_};
 ghost use lib.ListN.{length, take, drop};
-ghost use Rattle.paper.specs.Sizes.{maxU32};
+ghost use Rattle.paper.specs.Sizes.{maxU32, maxI32, lowI32};
 ghost use Rattle.paper.specs.Numbers.Numeral.{digitOf};
-ghost use Rattle.paper.specs.Computed.Numeral.{spelledBy, numeral};
+ghost use Rattle.paper.specs.Computed.Numeral.{spelledBy, numeral, signedNumeral};
 ghost use Rattle.paper.specs.Computed.ReadText.{strip0x, checkedBound, boundOf};
-ghost use Rattle.numeral.specs.Said.{saidNumber, saidBound};
+ghost use Rattle.numeral.specs.Said.{saidNumber, saidSigned, saidBound};
 ghost use Rattle.numeral.specs.Asked.{Least, DigitsIn};
 
 const DECIMAL: u64 = 10;
@@ -20,8 +20,12 @@ const HEX: u64 = 16;
 // What a byte that is no digit of any base up to 16 counts as.
 const NO_DIGIT: u64 = 16;
 
-// The greatest u32, and the greatest code.
+// The greatest u32, the greatest i32, and how far an i32 reaches below 0.
 const MAX_U32: u64 = 0xFFFF_FFFF;
+
+const MAX_I32: u64 = 2147483647;
+
+const LOW_I32: u64 = 2147483648;
 
 const MAX_U16: u64 = 0xFFFF;
 
@@ -40,6 +44,13 @@ const REPLACEMENT: u16 = 0xFFFD;
 // A u32, or none.
 pub enum Number {
     Value(u32),
+    Bad,
+}
+
+// An i32 by sign and size, or none. `-0` is `Minus(0)`. The one who asks keeps it modulo 65,536, which needs no signed sum.
+pub enum Signed {
+    Plus(u32),
+    Minus(u32),
     Bad,
 }
 
@@ -115,6 +126,26 @@ pub fn parse_u32(text: &[u8], start: usize, end: usize) -> Number
     ensures { λ r. ⌜ saidNumber r ≡ numeral 10 maxU32 (drop start (take end (now (text .entry)))) ⌝ }
 {
     parse_number(text, start, least(end, text.len()), DECIMAL, MAX_U32)
+}
+
+// `-` and digits, or what is no negative number.
+pub fn parse_i32(text: &[u8], start: usize, end: usize) -> Signed
+    ensures { λ r. ⌜ saidSigned r ≡ signedNumeral 10 maxI32 lowI32 (drop start (take end (now (text .entry)))) ⌝ }
+{
+    let stop = least(end, text.len());
+    if stop <= start {
+        return Signed::Bad;
+    }
+    if text[start] == b'-' {
+        return match parse_digits(text, start + 1, stop, DECIMAL, LOW_I32) {
+            Number::Value(size) => Signed::Minus(size),
+            Number::Bad => Signed::Bad,
+        };
+    }
+    match parse_number(text, start, stop, DECIMAL, MAX_I32) {
+        Number::Value(size) => Signed::Plus(size),
+        Number::Bad => Signed::Bad,
+    }
 }
 
 // Past every `0x` in front.
