@@ -83,8 +83,8 @@ unfolding checkedBound
 no-code = refl
 
 -- what is read in 16 bits fits 16 bits
-pub code-fits : (cs : List ℕ) (code : ℕ) → some code ≡ numeral 16 maxU16 cs → code ≤ maxU16
-code-fits cs code e = numeral-sound 16 maxU16 cs code (sym e) .fits
+pub code-small : (cs : List ℕ) (code : ℕ) → some code ≡ numeral 16 maxU16 cs → code ≤ maxU16
+code-small cs code e = numeral-sound 16 maxU16 cs code (sym e) .fits
 
 pub bound-of : (l : List ℕ) (start end stop at : ℕ) (o : Option ℕ) → take stop l ≡ take end l → drop at (take stop l) ≡ strip0x (drop start (take stop l))
     → o ≡ numeral 16 maxU16 (drop at (take stop l)) → checkedBound o ≡ boundOf (drop start (take end l))

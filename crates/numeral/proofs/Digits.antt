@@ -4,20 +4,20 @@
 use Prim.Native.Nat.{ℕ, _+_, _-_, _*_, _≤_, _<_}
 use native.Mathlib.Omega.{arith}
 use native.Mathlib.Nat.{mul-le-mul, le-mul-of-pos-right, le-trans}
-use mathlib.Core.Path.{_≡_, refl, sym, ap, _∙_}
+use mathlib.Core.Path.{_≡_, refl, sym, ap}
 use mathlib.Core.Bool.{Bool, true, false, cond, _&&_}
-use mathlib.Core.Option.{Option, none, some}
+use mathlib.Core.Option.{none, some}
 use mathlib.Core.List.{List, [], _∷_}
 use lib.Dec.{leb}
 use lib.ListN.{length, take, drop, getD}
 use borrow.Author.Tests.{lt-ltb, le-ltb, le-leb, lt-leb, leb-true, leb-false, ne-eqb}
 use Rattle.paper.specs.Sizes.{maxU32}
-use Rattle.paper.specs.Lists.{all, full}
+use Rattle.paper.specs.Lists.{all}
 use Rattle.paper.specs.Text.Scalar.{between, plusSign, minusSign}
 use Rattle.paper.specs.Numbers.Numeral.{digitOf, isDigit, valueAfter}
 use Rattle.paper.specs.Computed.Numeral.{spelledBy, numeral, asNeg, asPos, signedNumeral}
 use Rattle.paper.proofs.Lists.Parts.{nothing, uncons}
-use Rattle.numeral.specs.DigitLoop.{digitLoop}
+use Rattle.numeral.specs.DigitLoop.{digitLoop, digitsAfter}
 
 -- ---- runs of numbers
 
@@ -55,10 +55,6 @@ module _ (b : ℕ) where
 
 -- ---- the law
 
--- what digits say after the value `v`
-unfoldable rest : ℕ → ℕ → ℕ → List ℕ → Option ℕ
-rest base limit v ds = cond (all (isDigit base) ds && leb (valueAfter base v ds) limit) (some (valueAfter base v ds)) none
-
 -- more digits give no smaller number
 grows : (base v : ℕ) (ds : List ℕ) → 1 ≤ base → v ≤ valueAfter base v ds
 unfolding valueAfter
@@ -68,8 +64,8 @@ grows base v (d ∷ ds) h =
     let i : v * base + digitOf d ≤ valueAfter base (v * base + digitOf d) ds = grows base (v * base + digitOf d) ds h in
     omega arith
 
-over : (base limit v : ℕ) (ds : List ℕ) → 1 ≤ base → limit < v → rest base limit v ds ≡ none
-unfolding rest
+over : (base limit v : ℕ) (ds : List ℕ) → 1 ≤ base → limit < v → digitsAfter base limit v ds ≡ none
+unfolding digitsAfter
 over base limit v ds h k =
     let g = grows base v ds h in
     go (all (isDigit base) ds) (lt-leb (valueAfter base v ds) limit (omega arith))
@@ -78,15 +74,15 @@ over base limit v ds h k =
     go true e = rw e
     go false e = refl
 
-loop-says : (base limit v : ℕ) (ds : List ℕ) → 1 ≤ base → v ≤ limit → digitLoop base limit v ds ≡ rest base limit v ds
-unfolding digitLoop rest valueAfter
+loop-says : (base limit v : ℕ) (ds : List ℕ) → 1 ≤ base → v ≤ limit → digitLoop base limit v ds ≡ digitsAfter base limit v ds
+unfolding digitLoop digitsAfter valueAfter
 loop-says base limit v [] h k = rw (le-leb v limit k)
 loop-says base limit v (d ∷ ds) h k = go (isDigit base d) (leb w limit) refl (λ m. loop-says base limit w ds h m)
   where
     w : ℕ
     w = v * base + digitOf d
 
-    go : (a b : Bool) → leb w limit ≡ b → (w ≤ limit → digitLoop base limit w ds ≡ rest base limit w ds)
+    go : (a b : Bool) → leb w limit ≡ b → (w ≤ limit → digitLoop base limit w ds ≡ digitsAfter base limit w ds)
         → cond (a && b) (digitLoop base limit w ds) none ≡ cond ((a && all (isDigit base) ds) && leb (valueAfter base w ds) limit) (some (valueAfter base w ds)) none
     go true true e more = more (leb-true w limit e)
     go true false e more = sym (over base limit w ds h (leb-false w limit e))
@@ -94,7 +90,7 @@ loop-says base limit v (d ∷ ds) h k = go (isDigit base d) (leb w limit) refl (
 
 -- one or more digits: the loop from 0 reads their value, and refuses exactly what is no digit or passes the limit
 pub loop-reads : (base limit d : ℕ) (ds : List ℕ) → 1 ≤ base → digitLoop base limit 0 (d ∷ ds) ≡ spelledBy base limit (d ∷ ds)
-unfolding spelledBy rest
+unfolding spelledBy digitsAfter
 loop-reads base limit d ds h = loop-says base limit 0 (d ∷ ds) h (omega arith)
 
 -- ---- the loop's steps, at a place of a text

@@ -7,7 +7,7 @@ use mathlib.Core.Option.{none}
 use denote.Ref.{now}
 use Rattle.numeral.specs.Said.{saidNumber}
 use Rattle.paper.proofs.Lists.Parts.{clamp}
-use Rattle.numeral.proofs.Bounds.{no-code, code-fits, bound-of}
+use Rattle.numeral.proofs.Bounds.{no-code, code-small, bound-of}
 use Rattle.numeral.proofs.parse_hex_codepoint.Statement.{statement}
 use Rattle.numeral.proofs.parse_hex_codepoint.Tie as tie
 
@@ -24,7 +24,7 @@ enum-known-code : tie.Need-enum-known-code
 enum-known-code c = search needs
 
 cast-ucs2-to-unicode : tie.Need-cast-ucs2-to-unicode
-cast-ucs2-to-unicode c = omega (arith, code-fits _ _ (ap saidNumber (sym (c .before .code .given .1)) ∙ (c .before .before .before .parse-number .ensures)))
+cast-ucs2-to-unicode c = omega (arith, code-small _ _ (ap saidNumber (sym (c .before .code .given .1)) ∙ (c .before .before .before .parse-number .ensures)))
 
 ucs2-to-unicode-requires : tie.Need-ucs2-to-unicode-requires
 ucs2-to-unicode-requires c κs = search needs

@@ -4,8 +4,7 @@ use native.Mathlib.Omega.{arith}
 use borrow.Author.Needs.{needs}
 use mathlib.Core.Path.{_≡_, sym, ap, _∙_}
 use mathlib.Core.List.{List}
-use mathlib.Core.Option.{none}
-use lib.ListN.{take, drop}
+use lib.ListN.{drop}
 use denote.Ref.{now}
 use Prim.Native.Nat.{ℕ}
 use Rattle.paper.specs.Sizes.{maxI32, lowI32}
