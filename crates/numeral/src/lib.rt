@@ -105,7 +105,8 @@ fn parse_digits(text: &[u8], start: usize, end: usize, base: u64, limit: u64) ->
         }
         at += 1;
     }
-    Number::Value(value as u32)
+    let read = value as u32;
+    Number::Value(read)
 }
 
 // An optional `+`, and digits.
@@ -113,10 +114,7 @@ fn parse_number(text: &[u8], start: usize, end: usize, base: u64, limit: u64) ->
     requires { ⌜ DigitsIn (now text) end base limit ⌝ }
     ensures { λ r. ⌜ saidNumber r ≡ numeral base limit (drop start (take end (now (text .entry)))) ⌝ }
 {
-    if end <= start {
-        return Number::Bad;
-    }
-    if text[start] == b'+' {
+    if start < end && text[start] == b'+' {
         return parse_digits(text, start + 1, end, base, limit);
     }
     parse_digits(text, start, end, base, limit)

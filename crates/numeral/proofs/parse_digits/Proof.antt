@@ -71,8 +71,8 @@ loop-again c =
     let l = now (a .text) in
     (omega arith, (c .before .before .before .before .before .loop .inv .1) ∙ digit l (a .base) (a .limit) ((c .before .before .before .before .before .loop .at)) (a .end) (omega arith) (omega arith) ((c .before .before .before .before .before .loop .value)) ((c .before .before .digit-of .result)) ((c .before .before .digit-of .ensures)) (omega arith) (omega arith))
 
-cast-t14 : tie.Need-cast-t14 Inv-loop μ-loop
-cast-t14 c = omega arith
+cast-read : tie.Need-cast-read Inv-loop μ-loop
+cast-read c = omega arith
 
 returns-4 : tie.Need-returns-4 Inv-loop μ-loop
 returns-4 c =
@@ -97,5 +97,5 @@ parse-digits-spec =
     add-at
     loop-less
     loop-again
-    cast-t14
+    cast-read
     returns-4)
