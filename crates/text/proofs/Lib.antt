@@ -1,0 +1,9 @@
+pub mod WhiteBytes
+pub mod Table
+pub mod Bytes
+pub mod Shape
+pub mod Wf
+pub mod Value
+pub mod Laws
+pub mod Gaps
+pub mod Paper
