@@ -45,10 +45,14 @@ module _ (l : List ℕ) (at end : ℕ) where
   two : at + 1 < end → end ≤ length l → drop at (take end l) ≡ getD l at 0 ∷ getD l (at + 1) 0 ∷ drop (at + 2) (take end l)
   two h k =
       let e : at + 1 + 1 ≡ at + 2 = omega arith in
-      uncons l at end (omega arith) k ∙ ap (λ s. getD l at 0 ∷ s) (uncons l (at + 1) end h k ∙ ap (λ n. getD l (at + 1) 0 ∷ drop n (take end l)) e)
+      uncons l at end (omega arith) k
+      ∙ ap (λ s. getD l at 0 ∷ s) (uncons l (at + 1) end h k ∙ ap (λ n. getD l (at + 1) 0 ∷ drop n (take end l)) e)
 
-  pub strip-stop₂ : at + 1 < end → end ≤ length l → (getD l (at + 1) 0 ≡ letterX → ⊥) → strip0x (drop at (take end l)) ≡ drop at (take end l)
-  strip-stop₂ h k n = rw (two h k) (strip-off₂ (getD l at 0) (getD l (at + 1) 0) (drop (at + 2) (take end l)) (ne-eqb (getD l (at + 1) 0) letterX n))
+  pub strip-stop₂ : at + 1 < end → end ≤ length l → (getD l (at + 1) 0 ≡ letterX → ⊥)
+      → strip0x (drop at (take end l)) ≡ drop at (take end l)
+  strip-stop₂ h k n =
+      rw (two h k)
+      (strip-off₂ (getD l at 0) (getD l (at + 1) 0) (drop (at + 2) (take end l)) (ne-eqb (getD l (at + 1) 0) letterX n))
 
   pub strip-on : at + 1 < end → end ≤ length l → getD l at 0 ≡ digit0 → getD l (at + 1) 0 ≡ letterX
       → strip0x (drop at (take end l)) ≡ strip0x (drop (at + 2) (take end l))
@@ -86,7 +90,8 @@ no-code = refl
 pub code-small : (cs : List ℕ) (code : ℕ) → some code ≡ numeral 16 maxU16 cs → code ≤ maxU16
 code-small cs code e = numeral-sound 16 maxU16 cs code (sym e) .fits
 
-pub bound-of : (l : List ℕ) (start end stop at : ℕ) (o : Option ℕ) → take stop l ≡ take end l → drop at (take stop l) ≡ strip0x (drop start (take stop l))
+pub bound-of : (l : List ℕ) (start end stop at : ℕ) (o : Option ℕ) → take stop l ≡ take end l
+    → drop at (take stop l) ≡ strip0x (drop start (take stop l))
     → o ≡ numeral 16 maxU16 (drop at (take stop l)) → checkedBound o ≡ boundOf (drop start (take end l))
 unfolding boundOf
 bound-of l start end stop at o e f g =

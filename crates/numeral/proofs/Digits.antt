@@ -16,7 +16,8 @@ use Rattle.paper.specs.Lists.{all}
 use Rattle.paper.specs.Text.Scalar.{between, plusSign, minusSign}
 use Rattle.paper.specs.Numbers.Numeral.{digitOf, isDigit, valueAfter}
 use Rattle.paper.specs.Computed.Numeral.{spelledBy, numeral, asNeg, asPos, signedNumeral}
-use Rattle.paper.proofs.Lists.Parts.{nothing, uncons}
+use Rattle.paper.proofs.Lists.Parts.{nothing, uncons, clamp}
+use Rattle.numeral.specs.Asked.{Least}
 use Rattle.numeral.specs.DigitLoop.{digitLoop, digitsAfter}
 
 -- ---- runs of numbers
@@ -70,7 +71,8 @@ over base limit v ds h k =
     let g = grows base v ds h in
     go (all (isDigit base) ds) (lt-leb (valueAfter base v ds) limit (omega arith))
   where
-    go : (a : Bool) → leb (valueAfter base v ds) limit ≡ false → cond (a && leb (valueAfter base v ds) limit) (some (valueAfter base v ds)) none ≡ none
+    go : (a : Bool) → leb (valueAfter base v ds) limit ≡ false
+        → cond (a && leb (valueAfter base v ds) limit) (some (valueAfter base v ds)) none ≡ none
     go true e = rw e
     go false e = refl
 
@@ -83,7 +85,8 @@ loop-says base limit v (d ∷ ds) h k = go (isDigit base d) (leb w limit) refl (
     w = v * base + digitOf d
 
     go : (a b : Bool) → leb w limit ≡ b → (w ≤ limit → digitLoop base limit w ds ≡ digitsAfter base limit w ds)
-        → cond (a && b) (digitLoop base limit w ds) none ≡ cond ((a && all (isDigit base) ds) && leb (valueAfter base w ds) limit) (some (valueAfter base w ds)) none
+        → cond (a && b) (digitLoop base limit w ds) none
+        ≡ cond ((a && all (isDigit base) ds) && leb (valueAfter base w ds) limit) (some (valueAfter base w ds)) none
     go true true e more = more (leb-true w limit e)
     go true false e more = sym (over base limit w ds h (leb-false w limit e))
     go false b e more = refl
@@ -155,6 +158,12 @@ module _ (base top low : ℕ) (l : List ℕ) (at end : ℕ) where
       → signedNumeral base top low (drop at (take end l)) ≡ asPos (numeral base top (drop at (take end l)))
   unfolding signedNumeral
   no-minus h k e = rw (uncons l at end h k, ne-eqb (getD l at 0) minusSign e)
+
+-- ---- the part's end
+
+-- an end past the text is the text's
+pub cut-at-end : (l : List ℕ) (end : ℕ) {r : ℕ} → Least end (length l) r → take r l ≡ take end l
+cut-at-end l end {r} m = clamp l end r (m .one) (m .other) (m .first)
 
 -- ---- room for the next value
 

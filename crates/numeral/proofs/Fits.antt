@@ -235,11 +235,11 @@ module _ (cs : List ℕ) where
       back (unreadable never e) = ap noBound e ∙ sym (of-none never)
       back (mark code h m e) = ucs2-to-unicode-fits code (bound.NoBound k) .1 (m, e) ∙ sym (of-code code h)
 
-  pub parse-hex-codepoint-read : (r : Bound) → BoundFits cs r → (b : ℕ) → (r ≡ bound.Code b) ↔ line.Bound 0 cs b
-  parse-hex-codepoint-read r f b = (λ e. subst (BoundFits cs) e f, λ g. said-bound r (bound.Code b) (parse-hex-codepoint-fits r .1 f ∙ sym (parse-hex-codepoint-fits (bound.Code b) .1 g)))
-
   pub parse-hex-codepoint-one : (r s : Bound) → BoundFits cs r → BoundFits cs s → r ≡ s
   parse-hex-codepoint-one r s f g = said-bound r s (parse-hex-codepoint-fits r .1 f ∙ sym (parse-hex-codepoint-fits s .1 g))
+
+  pub parse-hex-codepoint-read : (r : Bound) → BoundFits cs r → (b : ℕ) → (r ≡ bound.Code b) ↔ line.Bound 0 cs b
+  parse-hex-codepoint-read r f b = (λ e. subst (BoundFits cs) e f, λ g. parse-hex-codepoint-one r (bound.Code b) f g)
 
 -- ---- u32 and i32
 
@@ -263,5 +263,6 @@ parse-i32-one cs = signed-one 10 maxI32 lowI32 le10 cs
 pub parse-u32-read : (cs : List ℕ) (r : Number) → NumberFits 10 maxU32 cs r → (n : ℕ) → (r ≡ number.Value n) ↔ Numeral 10 maxU32 cs n
 parse-u32-read cs = number-read 10 maxU32 le10 cs
 
-pub parse-i32-read : (cs : List ℕ) (r : Signed) → SignedFits 10 maxI32 lowI32 cs r → (i : Integer) → (saidSigned r ≡ some i) ↔ SignedNumeral 10 maxI32 lowI32 cs i
+pub parse-i32-read : (cs : List ℕ) (r : Signed) → SignedFits 10 maxI32 lowI32 cs r
+    → (i : Integer) → (saidSigned r ≡ some i) ↔ SignedNumeral 10 maxI32 lowI32 cs i
 parse-i32-read cs = signed-read 10 maxI32 lowI32 le10 cs

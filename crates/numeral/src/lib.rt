@@ -20,7 +20,7 @@ const HEX: u64 = 16;
 // What a byte that is no digit of any base up to 16 counts as.
 const NO_DIGIT: u64 = 16;
 
-// The greatest u32, the greatest i32, and how far an i32 reaches below 0.
+// The greatest u32, the greatest i32, how far an i32 reaches below 0, and the greatest code of 16 bits.
 const MAX_U32: u64 = 0xFFFF_FFFF;
 
 const MAX_I32: u64 = 2147483647;
@@ -28,6 +28,9 @@ const MAX_I32: u64 = 2147483647;
 const LOW_I32: u64 = 2147483648;
 
 const MAX_U16: u64 = 0xFFFF;
+
+// Bytes of `0x`.
+const WIDTH_0X: usize = 2;
 
 // The byte order mark and its bytes swapped, which are no bounds.
 const MARK: u16 = 0xFEFF;
@@ -153,7 +156,7 @@ fn past_0x(text: &[u8], start: usize, end: usize) -> usize
 {
     let mut at = start;
     while at < end {
-        if end - at < 2 {
+        if end - at < WIDTH_0X {
             return at;
         }
         if text[at] != b'0' {
@@ -162,7 +165,7 @@ fn past_0x(text: &[u8], start: usize, end: usize) -> usize
         if text[at + 1] != b'x' {
             return at;
         }
-        at += 2;
+        at += WIDTH_0X;
     }
     at
 }

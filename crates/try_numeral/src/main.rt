@@ -11,6 +11,8 @@ const LONGEST: usize = 2048;
 
 const LIST_ROOM: usize = 262144;
 
+const CODES: u64 = 65536;
+
 // An answer as one number: what was read, all below this, or this and the refusal's number.
 const REFUSED: u64 = 0x1_0000_0000;
 
@@ -71,7 +73,7 @@ fn agrees(list: &[u8], kind: u8, at: usize) -> bool {
     let answer = replay::field_at(list, bytes.next);
     let wanted = expected(list, answer.start, answer.end);
     if kind == b'c' {
-        let code = (replay::number_of(list, bytes.start, bytes.end, true) % 65536) as u16;
+        let code = (replay::number_of(list, bytes.start, bytes.end, true) % CODES) as u16;
         return of_bound(numeral::ucs2_to_unicode(code)) == wanted;
     }
     let mut room = [b'7'; LONGEST];

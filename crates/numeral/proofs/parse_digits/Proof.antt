@@ -40,24 +40,30 @@ digit-of-requires c κs = search needs
 returns-2 : tie.Need-returns-2 Inv-loop μ-loop
 returns-2 c =
     let a = (c .before .before .before .before .before .before .before .args) in
+    let t = (c .before .before .before .before .loop) in
+    let d = (c .before .digit-of) in
     let l = now (a .text) in
-    sym ((c .before .before .before .before .loop .inv .1) ∙ no-digit l (a .base) (a .limit) ((c .before .before .before .before .loop .at)) (a .end) (omega arith) (omega arith) ((c .before .before .before .before .loop .value)) ((c .before .digit-of .result)) ((c .before .digit-of .ensures)) (omega arith))
+    sym (t .inv .1 ∙ no-digit l (a .base) (a .limit) (t .at) (a .end) (omega arith) (omega arith) (t .value) (d .result) (d .ensures) (omega arith))
 
 mul-value : tie.Need-mul-value Inv-loop μ-loop
 mul-value c =
     let a = (c .before .before .before .before .before .before .before .args) in
-    omega (arith, small ((c .before .before .before .before .loop .value)) (a .base) (a .limit) (omega arith) (omega arith) (omega arith))
+    let t = (c .before .before .before .before .loop) in
+    omega (arith, small (t .value) (a .base) (a .limit) (omega arith) (omega arith) (omega arith))
 
 add-value : tie.Need-add-value Inv-loop μ-loop
 add-value c =
     let a = (c .before .before .before .before .before .before .before .args) in
-    omega (arith, small ((c .before .before .before .before .loop .value)) (a .base) (a .limit) (omega arith) (omega arith) (omega arith))
+    let t = (c .before .before .before .before .loop) in
+    omega (arith, small (t .value) (a .base) (a .limit) (omega arith) (omega arith) (omega arith))
 
 returns-3 : tie.Need-returns-3 Inv-loop μ-loop
 returns-3 c =
     let a = (c .before .before .before .before .before .before .before .before .args) in
+    let t = (c .before .before .before .before .before .loop) in
+    let d = (c .before .before .digit-of) in
     let l = now (a .text) in
-    sym ((c .before .before .before .before .before .loop .inv .1) ∙ too-great l (a .base) (a .limit) ((c .before .before .before .before .before .loop .at)) (a .end) (omega arith) (omega arith) ((c .before .before .before .before .before .loop .value)) ((c .before .before .digit-of .result)) ((c .before .before .digit-of .ensures)) (omega arith) (omega arith))
+    sym (t .inv .1 ∙ too-great l (a .base) (a .limit) (t .at) (a .end) (omega arith) (omega arith) (t .value) (d .result) (d .ensures) (omega arith) (omega arith))
 
 add-at : tie.Need-add-at Inv-loop μ-loop
 add-at c = omega arith
@@ -68,8 +74,10 @@ loop-less c = omega arith
 loop-again : tie.Need-loop-again Inv-loop μ-loop
 loop-again c =
     let a = (c .before .before .before .before .before .before .before .before .args) in
+    let t = (c .before .before .before .before .before .loop) in
+    let d = (c .before .before .digit-of) in
     let l = now (a .text) in
-    (omega arith, (c .before .before .before .before .before .loop .inv .1) ∙ digit l (a .base) (a .limit) ((c .before .before .before .before .before .loop .at)) (a .end) (omega arith) (omega arith) ((c .before .before .before .before .before .loop .value)) ((c .before .before .digit-of .result)) ((c .before .before .digit-of .ensures)) (omega arith) (omega arith))
+    (omega arith, t .inv .1 ∙ digit l (a .base) (a .limit) (t .at) (a .end) (omega arith) (omega arith) (t .value) (d .result) (d .ensures) (omega arith) (omega arith))
 
 cast-read : tie.Need-cast-read Inv-loop μ-loop
 cast-read c = omega arith
@@ -77,8 +85,8 @@ cast-read c = omega arith
 returns-4 : tie.Need-returns-4 Inv-loop μ-loop
 returns-4 c =
     let a = (c .before .before .before .before .args) in
-    let l = now (a .text) in
-    sym ((c .before .loop .inv .1) ∙ digits-ended (a .base) (a .limit) ((c .before .loop .value)) l ((c .before .loop .at)) (a .end) (omega arith))
+    let t = (c .before .loop) in
+    sym (t .inv .1 ∙ digits-ended (a .base) (a .limit) (t .value) (now (a .text)) (t .at) (a .end) (omega arith))
 
 pub parse-digits-spec : {M : Type 1} → statement M
 parse-digits-spec =

@@ -6,8 +6,8 @@ use mathlib.Core.Path.{sym, ap, _∙_}
 use mathlib.Core.Option.{none}
 use denote.Ref.{now}
 use Rattle.numeral.specs.Said.{saidNumber}
-use Rattle.paper.proofs.Lists.Parts.{clamp}
 use Rattle.numeral.proofs.Bounds.{no-code, code-small, bound-of}
+use Rattle.numeral.proofs.Digits.{cut-at-end}
 use Rattle.numeral.proofs.parse_hex_codepoint.Statement.{statement}
 use Rattle.numeral.proofs.parse_hex_codepoint.Tie as tie
 
@@ -35,19 +35,21 @@ enum-told c = search needs
 returns : tie.Need-returns
 returns c =
     let a = (c .before .before .before .before .before .before .before .before .args) in
+    let x = (c .before .before .before .before .before .past-0x) in
     let l = now (a .text) in
-    let e = clamp l (a .end) ((c .before .before .before .before .before .before .least .result)) (c .before .before .before .before .before .before .least .ensures .one) (c .before .before .before .before .before .before .least .ensures .other) (c .before .before .before .before .before .before .least .ensures .first) in
+    let e = cut-at-end l (a .end) (c .before .before .before .before .before .before .least .ensures) in
     (c .ucs2-to-unicode .ensures)
-    ∙ bound-of l (a .start) (a .end) ((c .before .before .before .before .before .before .least .result)) ((c .before .before .before .before .before .past-0x .result)) _ e (c .before .before .before .before .before .past-0x .ensures)
+    ∙ bound-of l (a .start) (a .end) (c .before .before .before .before .before .before .least .result) (x .result) _ e (x .ensures)
     (ap saidNumber (sym (c .before .before .code .given .1)) ∙ (c .before .before .before .before .parse-number .ensures))
 
 returns-2 : tie.Need-returns-2
 returns-2 c =
     let a = (c .before .before .before .before .before .before .args) in
+    let x = (c .before .before .before .past-0x) in
     let l = now (a .text) in
-    let e = clamp l (a .end) ((c .before .before .before .before .least .result)) (c .before .before .before .before .least .ensures .one) (c .before .before .before .before .least .ensures .other) (c .before .before .before .before .least .ensures .first) in
+    let e = cut-at-end l (a .end) (c .before .before .before .before .least .ensures) in
     no-code
-    ∙ bound-of l (a .start) (a .end) ((c .before .before .before .before .least .result)) ((c .before .before .before .past-0x .result)) none e (c .before .before .before .past-0x .ensures)
+    ∙ bound-of l (a .start) (a .end) (c .before .before .before .before .least .result) (x .result) none e (x .ensures)
     (ap saidNumber (sym (c .enum-told .given .1)) ∙ (c .before .before .parse-number .ensures))
 
 pub parse-hex-codepoint-spec : {M : Type 1} → statement M

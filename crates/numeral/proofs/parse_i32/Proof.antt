@@ -9,9 +9,8 @@ use denote.Ref.{now}
 use Prim.Native.Nat.{ℕ}
 use Rattle.paper.specs.Sizes.{maxI32, lowI32}
 use Rattle.paper.specs.Computed.Numeral.{asNeg, asPos, signedNumeral}
-use Rattle.paper.proofs.Lists.Parts.{clamp}
 use Rattle.numeral.specs.Said.{saidNumber}
-use Rattle.numeral.proofs.Digits.{no-signed, minus-sign, no-minus}
+use Rattle.numeral.proofs.Digits.{cut-at-end, no-signed, minus-sign, no-minus}
 use Rattle.numeral.proofs.parse_i32.Statement.{statement}
 use Rattle.numeral.proofs.parse_i32.Tie as tie
 
@@ -25,9 +24,8 @@ returns : tie.Need-returns
 returns c =
     let a = (c .before .before .before .args) in
     let l = now (a .text) in
-    let stop = (c .before .least .result) in
-    let e = clamp l (a .end) stop (c .before .least .ensures .one) (c .before .least .ensures .other) (c .before .least .ensures .first) in
-    sym (no-signed 10 maxI32 lowI32 l (a .start) stop (omega arith)) ∙ recut (a .start) e
+    let e = cut-at-end l (a .end) (c .before .least .ensures) in
+    sym (no-signed 10 maxI32 lowI32 l (a .start) (c .before .least .result) (omega arith)) ∙ recut (a .start) e
 
 shared-slice-read-if2 : tie.Need-shared-slice-read-if2
 shared-slice-read-if2 c = search needs
@@ -48,20 +46,18 @@ returns-2 : tie.Need-returns-2
 returns-2 c =
     let a = (c .before .before .before .before .before .before .before .before .before .args) in
     let l = now (a .text) in
-    let stop = (c .before .before .before .before .before .before .before .least .result) in
-    let e = clamp l (a .end) stop (c .before .before .before .before .before .before .before .least .ensures .one) (c .before .before .before .before .before .before .before .least .ensures .other) (c .before .before .before .before .before .before .before .least .ensures .first) in
+    let e = cut-at-end l (a .end) (c .before .before .before .before .before .before .before .least .ensures) in
     ap asNeg (ap saidNumber (sym (c .before .size .given .1)) ∙ (c .before .before .before .parse-digits .ensures))
-    ∙ sym (minus-sign 10 maxI32 lowI32 l (a .start) stop (omega arith) (omega arith) (c .before .before .before .before .if2 .taken))
+    ∙ sym (minus-sign 10 maxI32 lowI32 l (a .start) (c .before .before .before .before .before .before .before .least .result) (omega arith) (omega arith) (c .before .before .before .before .if2 .taken))
     ∙ recut (a .start) e
 
 returns-3 : tie.Need-returns-3
 returns-3 c =
     let a = (c .before .before .before .before .before .before .before .before .args) in
     let l = now (a .text) in
-    let stop = (c .before .before .before .before .before .before .least .result) in
-    let e = clamp l (a .end) stop (c .before .before .before .before .before .before .least .ensures .one) (c .before .before .before .before .before .before .least .ensures .other) (c .before .before .before .before .before .before .least .ensures .first) in
+    let e = cut-at-end l (a .end) (c .before .before .before .before .before .before .least .ensures) in
     ap asNeg (ap saidNumber (sym (c .enum-told .given .1)) ∙ (c .before .before .parse-digits .ensures))
-    ∙ sym (minus-sign 10 maxI32 lowI32 l (a .start) stop (omega arith) (omega arith) (c .before .before .before .if2 .taken))
+    ∙ sym (minus-sign 10 maxI32 lowI32 l (a .start) (c .before .before .before .before .before .before .least .result) (omega arith) (omega arith) (c .before .before .before .if2 .taken))
     ∙ recut (a .start) e
 
 parse-number-requires : tie.Need-parse-number-requires
@@ -77,20 +73,18 @@ returns-4 : tie.Need-returns-4
 returns-4 c =
     let a = (c .before .before .before .before .before .before .before .before .before .args) in
     let l = now (a .text) in
-    let stop = (c .before .before .before .before .before .before .before .least .result) in
-    let e = clamp l (a .end) stop (c .before .before .before .before .before .before .before .least .ensures .one) (c .before .before .before .before .before .before .before .least .ensures .other) (c .before .before .before .before .before .before .before .least .ensures .first) in
+    let e = cut-at-end l (a .end) (c .before .before .before .before .before .before .before .least .ensures) in
     ap asPos (ap saidNumber (sym (c .before .size2 .given .1)) ∙ (c .before .before .before .parse-number .ensures))
-    ∙ sym (no-minus 10 maxI32 lowI32 l (a .start) stop (omega arith) (omega arith) (c .before .before .before .before .if2 .left))
+    ∙ sym (no-minus 10 maxI32 lowI32 l (a .start) (c .before .before .before .before .before .before .before .least .result) (omega arith) (omega arith) (c .before .before .before .before .if2 .left))
     ∙ recut (a .start) e
 
 returns-5 : tie.Need-returns-5
 returns-5 c =
     let a = (c .before .before .before .before .before .before .before .before .args) in
     let l = now (a .text) in
-    let stop = (c .before .before .before .before .before .before .least .result) in
-    let e = clamp l (a .end) stop (c .before .before .before .before .before .before .least .ensures .one) (c .before .before .before .before .before .before .least .ensures .other) (c .before .before .before .before .before .before .least .ensures .first) in
+    let e = cut-at-end l (a .end) (c .before .before .before .before .before .before .least .ensures) in
     ap asPos (ap saidNumber (sym (c .enum-told2 .given .1)) ∙ (c .before .before .parse-number .ensures))
-    ∙ sym (no-minus 10 maxI32 lowI32 l (a .start) stop (omega arith) (omega arith) (c .before .before .before .if2 .left))
+    ∙ sym (no-minus 10 maxI32 lowI32 l (a .start) (c .before .before .before .before .before .before .least .result) (omega arith) (omega arith) (c .before .before .before .if2 .left))
     ∙ recut (a .start) e
 
 pub parse-i32-spec : {M : Type 1} → statement M

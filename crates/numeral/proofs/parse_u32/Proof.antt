@@ -6,7 +6,7 @@ use lib.ListN.{drop}
 use denote.Ref.{now}
 use Rattle.paper.specs.Sizes.{maxU32}
 use Rattle.paper.specs.Computed.Numeral.{numeral}
-use Rattle.paper.proofs.Lists.Parts.{clamp}
+use Rattle.numeral.proofs.Digits.{cut-at-end}
 use Rattle.numeral.proofs.parse_u32.Statement.{statement}
 use Rattle.numeral.proofs.parse_u32.Tie as tie
 
@@ -20,7 +20,7 @@ returns : tie.Need-returns
 returns c =
     let a = (c .before .before .before .args) in
     let l = now (a .text) in
-    let e = clamp l (a .end) ((c .before .least .result)) (c .before .least .ensures .one) (c .before .least .ensures .other) (c .before .least .ensures .first) in
+    let e = cut-at-end l (a .end) (c .before .least .ensures) in
     (c .parse-number .ensures) ∙ ap (λ t. numeral 10 maxU32 (drop (a .start) t)) e
 
 pub parse-u32-spec : {M : Type 1} → statement M

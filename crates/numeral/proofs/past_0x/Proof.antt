@@ -25,8 +25,8 @@ sub-if1 c = omega arith
 returns : tie.Need-returns Inv-loop μ-loop
 returns c =
     let a = (c .before .before .before .args) in
-    let l = now (a .text) in
-    sym (strip-last l ((c .before .before .loop .at)) (a .end) (omega arith) (omega arith) (omega arith)) ∙ (c .before .before .loop .inv)
+    let t = (c .before .before .loop) in
+    sym (strip-last (now (a .text)) (t .at) (a .end) (omega arith) (omega arith) (omega arith)) ∙ t .inv
 
 shared-slice-read-if2 : tie.Need-shared-slice-read-if2 Inv-loop μ-loop
 shared-slice-read-if2 c = omega arith
@@ -34,8 +34,8 @@ shared-slice-read-if2 c = omega arith
 returns-2 : tie.Need-returns-2 Inv-loop μ-loop
 returns-2 c =
     let a = (c .before .before .before .before .before .args) in
-    let l = now (a .text) in
-    sym (strip-stop l ((c .before .before .before .before .loop .at)) (a .end) (omega arith) (omega arith) (c .if2 .taken)) ∙ (c .before .before .before .before .loop .inv)
+    let t = (c .before .before .before .before .loop) in
+    sym (strip-stop (now (a .text)) (t .at) (a .end) (omega arith) (omega arith) (c .if2 .taken)) ∙ t .inv
 
 add-if3 : tie.Need-add-if3 Inv-loop μ-loop
 add-if3 c = omega arith
@@ -46,8 +46,8 @@ shared-slice-read-if3 c = omega arith
 returns-3 : tie.Need-returns-3 Inv-loop μ-loop
 returns-3 c =
     let a = (c .before .before .before .before .before .before .before .args) in
-    let l = now (a .text) in
-    sym (strip-stop₂ l ((c .before .before .before .before .before .before .loop .at)) (a .end) (omega arith) (omega arith) (c .if3 .taken)) ∙ (c .before .before .before .before .before .before .loop .inv)
+    let t = (c .before .before .before .before .before .before .loop) in
+    sym (strip-stop₂ (now (a .text)) (t .at) (a .end) (omega arith) (omega arith) (c .if3 .taken)) ∙ t .inv
 
 add-at : tie.Need-add-at Inv-loop μ-loop
 add-at c = omega arith
@@ -58,14 +58,14 @@ loop-less c = omega arith
 loop-again : tie.Need-loop-again Inv-loop μ-loop
 loop-again c =
     let a = (c .before .before .before .before .before .before .before .args) in
-    let l = now (a .text) in
-    sym (strip-on l ((c .before .before .before .before .before .before .loop .at)) (a .end) (omega arith) (omega arith) (c .before .before .if2 .left) (c .if3 .left)) ∙ (c .before .before .before .before .before .before .loop .inv)
+    let t = (c .before .before .before .before .before .before .loop) in
+    sym (strip-on (now (a .text)) (t .at) (a .end) (omega arith) (omega arith) (c .before .before .if2 .left) (c .if3 .left)) ∙ t .inv
 
 returns-4 : tie.Need-returns-4 Inv-loop μ-loop
 returns-4 c =
     let a = (c .before .before .args) in
-    let l = now (a .text) in
-    sym (strip-end l ((c .before .loop .at)) (a .end) (omega arith)) ∙ (c .before .loop .inv)
+    let t = (c .before .loop) in
+    sym (strip-end (now (a .text)) (t .at) (a .end) (omega arith)) ∙ t .inv
 
 pub past-0x-spec : {M : Type 1} → statement M
 past-0x-spec =
