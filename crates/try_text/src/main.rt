@@ -111,7 +111,7 @@ fn wrong_white(from: u32, to: u32, white: bool) -> u64 {
     let mut wrong: u64 = 0;
     let mut c = from;
     while c < to {
-        let found = text::is_white(c);
+        let found = text::is_white_space(c);
         wrong = std::num::wrapping_add_u64(wrong, wrong_if(found != white));
         c += 1;
     }

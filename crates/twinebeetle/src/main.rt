@@ -57,7 +57,7 @@ fn main() {
         os::fail(&path[..length]);
         return;
     }
-    let mut room = [0u8; 65537];
+    let mut room = [0u8; ROOM];
     let n = io::read_full(fd, &mut room);
     if os::errno() != 0 {
         os::fail(&path[..length]);

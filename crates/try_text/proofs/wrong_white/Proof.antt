@@ -14,8 +14,8 @@ abbrev μ-loop : tie.MeasureT-loop
 loop-holds : tie.Need-loop-holds Inv-loop μ-loop
 loop-holds c = search needs
 
-is-white-requires : tie.Need-is-white-requires Inv-loop μ-loop
-is-white-requires c κs = search needs
+is-white-space-requires : tie.Need-is-white-space-requires Inv-loop μ-loop
+is-white-space-requires c κs = search needs
 
 wrong-if-requires : tie.Need-wrong-if-requires Inv-loop μ-loop
 wrong-if-requires c κs = search needs
@@ -42,7 +42,7 @@ wrong-white-spec =
     Inv-loop
     μ-loop
     loop-holds
-    is-white-requires
+    is-white-space-requires
     wrong-if-requires
     wrapping-add-u64-requires
     add-c
