@@ -9,7 +9,7 @@ use mathlib.Core.Path.{_≡_, refl, sym, ap, _∙_, subst}
 use mathlib.Core.Bool.{Bool, true, false, not, cond, _&&_, _||_}
 use mathlib.Core.List.{List, [], _∷_, map}
 use mathlib.Core.Option.{some}
-use lib.Dec.{T, leb, ltb, eqb}
+use lib.Dec.{T, ltb}
 use lib.ListN.{length, getD, take, drop, length-take, length-map}
 use lib.Seq.{getD-take, take-take}
 use borrow.Author.Tests.{ltb-true, lt-leb, le-ltb, lt-ltb, eq-eqb}
@@ -18,9 +18,9 @@ use Rattle.paper.specs.Lists.{empty}
 use Rattle.paper.specs.Text.Scalar.{isScalar, IsScalar}
 use Rattle.paper.specs.CharDef.Reading.{Reading}
 use Rattle.paper.specs.Rows.Covering.{boundaries, categoriesAt, rows}
-use Rattle.paper.specs.Rows.Flat.{RowFound, entryOffset, entryLength, offsetOf, flatEntry, entryPart, shortRows, flatIndex, flatPool}
+use Rattle.paper.specs.Rows.Flat.{RowFound, entryOffset, entryLength, offsetOf, flatEntry, entryPart, shortRows, flatPool}
 use Rattle.paper.specs.Rows.Build.{offsets}
-use Rattle.paper.specs.Rows.Lookup.{Looked, gives, LookupTables, Part, content, usesFlat, flatPart, rowPart, indexOdd, fromZero, rowMissing, pastPool, apart, lookup, Looks, packedAt, Begins, RowsLeft, FlatLeft, AsBuilt, without-flat, with-flat}
+use Rattle.paper.specs.Rows.Lookup.{Looked, gives, LookupTables, Part, content, usesFlat, flatPart, rowPart, indexOdd, fromZero, rowMissing, pastPool, apart, Looks, packedAt, Begins, RowsLeft, FlatLeft, AsBuilt, without-flat, with-flat}
 use Rattle.paper.proofs.Lists.Facts.{T→true, true→T}
 use Rattle.paper.proofs.Lists.Parts.{take-part}
 use Rattle.paper.proofs.Rows.Boundaries.{row-for-each}

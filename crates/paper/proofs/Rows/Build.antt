@@ -1,21 +1,20 @@
 -- Rooms of the stated sizes are never below the exact needs, and 16 is given exactly when the rows are not all short.
 -- Assumes nothing.
-use Prim.Native.Nat.{ℕ, _≤_, _<_}
-use native.Mathlib.Omega.{arith}
+use Prim.Native.Nat.{ℕ}
 use mathlib.Core.Path.{_≡_, refl, sym, ap₂, _∙_}
 use mathlib.Core.Bool.{Bool, true, false, not, _&&_, _||_}
-use mathlib.Core.List.{List, [], _∷_, map}
+use mathlib.Core.List.{List, [], _∷_}
 use mathlib.Core.Option.{some}
-use lib.Dec.{T, leb, ltb}
+use lib.Dec.{leb, ltb}
 use lib.ListN.{length}
 use borrow.Author.Tests.{leb-true, leb-false, lt-ltb, le-ltb}
 use Rattle.paper.specs.Sizes.{maxRows, maxRowPlaces, maxPackBytes, maxFlatRow, bmpSize}
-use Rattle.paper.specs.Lists.{all, any, sum}
-use Rattle.paper.specs.CharDef.Reading.{Reading, Within}
+use Rattle.paper.specs.Lists.{all, any}
+use Rattle.paper.specs.CharDef.Reading.{Reading}
 use Rattle.paper.specs.Rows.Covering.{rows}
 use Rattle.paper.specs.Rows.Flat.{shortRows, flatPool}
-use Rattle.paper.specs.Rows.Build.{rowsNeeded, placesNeeded, rowOverlong, rowRoomShort, flatRoomShort, writeRoomShort, built, rowsBuilt, flatBuilt, packWritten}
-use Rattle.paper.specs.Pack.Rules.{PackRules, numbered}
+use Rattle.paper.specs.Rows.Build.{rowsNeeded, placesNeeded, rowOverlong, built, rowsBuilt, flatBuilt, packWritten}
+use Rattle.paper.specs.Pack.Rules.{PackRules}
 use Rattle.paper.proofs.Rows.Sizes.{boundaries-fit, places-fit}
 use Rattle.paper.proofs.Rows.Flat.{joined-length}
 use Rattle.paper.proofs.Pack.Size.{pack-length}

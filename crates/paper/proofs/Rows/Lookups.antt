@@ -5,7 +5,7 @@ use Prim.Native.Nat.{ℕ, _*_, _<_, _≤_}
 use mathlib.Core.Path.{_≡_, sym, ap, ap₂, _∙_, subst}
 use mathlib.Core.Bool.{not, _&&_}
 use mathlib.Core.List.{List, [], map}
-use mathlib.Core.Option.{Option, some}
+use mathlib.Core.Option.{some}
 use lib.Dec.{T, ltb, eqb}
 use lib.ListN.{length, getD, drop, take-append-drop}
 use Rattle.paper.specs.Sizes.{maxRows, maxRowPlaces, maxU32, bmpSize}
@@ -18,7 +18,7 @@ use Rattle.paper.specs.Rows.Flat.{evalRow, entryOffset, entryLength, max
 use Rattle.paper.specs.Rows.Lookup.{Looked, gives, refuses, LookupTables, Part, ofFlat, Looks, packedAt, FlatLeft, AsBuilt, without-flat, with-flat}
 use Rattle.paper.specs.Rows.Numbers.{lowest, findName, definitionAt, nameAt, lookupDefinition, categoryName, nameOf}
 use Rattle.paper.specs.Pack.Rules.{PackRules}
-use Rattle.paper.specs.Tables.Layout.{Tables, used, behind, layout, countsOf}
+use Rattle.paper.specs.Tables.Layout.{Tables, used, behind}
 use Rattle.paper.specs.Tables.HandedIn.{HoldTogether}
 use Rattle.paper.specs.Computed.HandedIn.{handedIn}
 use Rattle.paper.specs.declared.Counts.{Counts}
