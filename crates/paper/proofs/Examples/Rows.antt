@@ -2,19 +2,18 @@
 -- Assumes nothing.
 use Prim.Native.Nat.{ℕ}
 use mathlib.Core.Path.{_≡_, refl}
-use mathlib.Core.Bool.{Bool, true, false}
+use mathlib.Core.Bool.{true, false}
 use mathlib.Core.List.{List, [], _∷_, map}
-use mathlib.Core.Option.{Option, none, some}
-use lib.ListN.{length, replicate}
+use mathlib.Core.Option.{none, some}
+use lib.ListN.{replicate}
 use Rattle.paper.specs.Sizes.{bmpSize}
 use Rattle.paper.specs.Refusals.{notScalar, numberUnknown, flatRowLong, tableRoomShort, packRoomShort, tablesApart}
-use Rattle.paper.specs.CharDef.Reading.{Definition, Range, Reading}
-use Rattle.paper.specs.Rows.Covering.{boundaries, categoriesAt, rows}
+use Rattle.paper.specs.CharDef.Reading.{Reading}
+use Rattle.paper.specs.Rows.Covering.{boundaries, rows}
 use Rattle.paper.specs.Rows.Flat.{entry, entryOffset, entryLength, rowNumber, flatEntry, entryPart, shortRows, counting, flatPool}
-use Rattle.paper.specs.Rows.Build.{rowsNeeded, placesNeeded, built, refusedBy, rowsBuilt, flatBuilt, packWritten, offsets}
+use Rattle.paper.specs.Rows.Build.{built, refusedBy, rowsBuilt, flatBuilt, packWritten, offsets}
 use Rattle.paper.specs.Rows.Lookup.{Looked, gives, refuses, LookupTables, ofFlat, ofRows, Part, lookup, packedAt}
 use Rattle.paper.specs.Rows.Numbers.{findName, lookupDefinition, categoryName}
-use Rattle.paper.specs.Computed.ReadText.{readText}
 use Rattle.paper.proofs.Examples.CharDef.{Example, Holds, All, ex, names-at, rows-are, boundaries-are}
 
 -- ---- texts and their rows

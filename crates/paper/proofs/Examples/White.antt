@@ -5,7 +5,7 @@ use Prim.Native.Nat.{ℕ, _≤_}
 use native.Mathlib.Nat.{le-trans}
 use mathlib.Core.Path.{_≡_, refl}
 use mathlib.Core.Logic.{_⊎_, inl, inr}
-use mathlib.Core.Bool.{Bool, true, false}
+use mathlib.Core.Bool.{true, false}
 use mathlib.Core.List.{List, [], _∷_, map}
 use lib.Dec.{T, leb}
 use lib.ListN.{length}
@@ -13,7 +13,7 @@ use mir.Facts.{and-yes, or-yes, leb-yes}
 use Rattle.paper.specs.Lists.{any, all, select}
 use Rattle.paper.specs.Text.Scalar.{between, isScalar, utf8, whites, isWhite, isSep}
 use Rattle.paper.specs.Rows.Flat.{counting}
-use Rattle.paper.specs.Computed.Decode.{Text, broken, chars, decode}
+use Rattle.paper.specs.Computed.Decode.{broken, chars, decode}
 
 -- ---- White_Space
 

@@ -9,7 +9,7 @@ use mathlib.Core.Path.{_≡_, refl, sym, ap, _∙_, subst}
 use mathlib.Core.Bool.{Bool, true, false, not, cond, _&&_, _||_}
 use mathlib.Core.List.{List, [], _∷_, map}
 use mathlib.Core.Option.{some}
-use lib.Dec.{T, leb, ltb, eqb}
+use lib.Dec.{T, ltb}
 use lib.ListN.{length, getD, take, drop, length-take, length-map}
 use lib.Seq.{getD-take, take-take}
 use borrow.Author.Tests.{ltb-true, lt-leb, le-ltb, lt-ltb, eq-eqb}
@@ -18,15 +18,15 @@ use Rattle.paper.specs.Lists.{empty}
 use Rattle.paper.specs.Text.Scalar.{isScalar, IsScalar}
 use Rattle.paper.specs.CharDef.Reading.{Reading}
 use Rattle.paper.specs.Rows.Covering.{boundaries, categoriesAt, rows}
-use Rattle.paper.specs.Rows.Flat.{RowFound, entryOffset, entryLength, offsetOf, flatEntry, entryPart, shortRows, flatIndex, flatPool}
+use Rattle.paper.specs.Rows.Flat.{RowFound, entryOffset, entryLength, offsetOf, flatEntry, entryPart, shortRows, flatPool}
 use Rattle.paper.specs.Rows.Build.{offsets}
-use Rattle.paper.specs.Rows.Lookup.{Looked, gives, LookupTables, Part, content, usesFlat, flatPart, rowPart, indexOdd, fromZero, rowMissing, pastPool, apart, lookup, Looks, packedAt, Begins, RowsLeft, FlatLeft, AsBuilt, without-flat, with-flat}
+use Rattle.paper.specs.Rows.Lookup.{Looked, gives, LookupTables, Part, content, usesFlat, flatPart, rowPart, indexOdd, fromZero, rowMissing, pastPool, apart, Looks, packedAt, Begins, RowsLeft, FlatLeft, AsBuilt, without-flat, with-flat}
 use Rattle.paper.proofs.Lists.Facts.{T→true, true→T}
 use Rattle.paper.proofs.Lists.Parts.{take-part}
 use Rattle.paper.proofs.Rows.Boundaries.{row-for-each}
 use Rattle.paper.proofs.Rows.Search.{from-zero, found-row}
 use Rattle.paper.proofs.Rows.Flat.{part-of, part-inside, joined-length, flat-part, flat-inside, index-length, index-at}
-use Rattle.paper.proofs.Rows.Build.{overlong-is}
+use Rattle.paper.proofs.Rows.Build.{overlong-is, offsets-length}
 use Rattle.paper.proofs.Rows.Lookup.{answered}
 
 -- ---- tables with more behind them
@@ -40,11 +40,6 @@ begins-length l x e = omega (arith, length-take (length x) l, ap length e)
 begins-part : (l x : List ℕ) (s n : ℕ) → Begins l x → s + n ≤ length x → take n (drop s l) ≡ take n (drop s x)
 begins-part l x s n e h =
     take-part s n l ∙ ap (drop s) (sym (take-take (s + n) (length x) l h) ∙ ap (take (s + n)) e) ∙ sym (take-part s n x)
-
-offsets-length : (at : ℕ) (ws : List (List ℕ)) → length (offsets at ws) ≡ length ws
-unfolding offsets
-offsets-length at [] = refl
-offsets-length at (w ∷ ws) = ap suc (offsets-length (at + length w) ws)
 
 offsets-at : (at : ℕ) (ws : List (List ℕ)) (i : ℕ) → i < length ws → getD (offsets at ws) i 0 ≡ at + offsetOf ws i
 unfolding offsets offsetOf

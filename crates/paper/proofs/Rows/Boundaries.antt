@@ -1,12 +1,12 @@
 -- The list `boundaries` holds exactly 0, each lower and each upper + 1, ascending without repeats; no other list does, and there are as
 -- many rows. Idea: putting a number in its place adds that member and no other; two ascending lists with the same members are one.
 -- Assumes nothing.
-use Prim.Native.Nat.{ℕ, suc, _+_, _<_, _≤_, zero-le}
+use Prim.Native.Nat.{ℕ, suc, _+_, _≤_, zero-le}
 use native.Mathlib.Nat.{le-refl}
 use native.Mathlib.Omega.{arith}
 use mathlib.Core.Path.{_≡_, refl, sym, ap, ap₂, _∙_, subst}
 use mathlib.Core.Logic.{_⊎_, inl, inr}
-use mathlib.Core.Bool.{Bool, true, false, cond, _&&_, _||_}
+use mathlib.Core.Bool.{Bool, true, false, cond, _||_}
 use mathlib.Core.List.{List, [], _∷_, map}
 use lib.Dec.{T, leb, ltb, eqb, eqb-refl, eqb→eq}
 use lib.ListN.{length, length-map}

@@ -1,23 +1,24 @@
--- Rooms of the stated sizes are never below the exact needs, and 16 is given exactly when the rows are not all short.
+-- The exact needs are the lengths of what is filled (`exact`), rooms of the stated sizes are never below them, and 16 is given exactly when
+-- the rows are not all short.
 -- Assumes nothing.
-use Prim.Native.Nat.{ℕ, _≤_, _<_}
-use native.Mathlib.Omega.{arith}
-use mathlib.Core.Path.{_≡_, refl, sym, ap₂, _∙_}
+use Prim.Native.Nat.{ℕ, suc, _+_}
+use mathlib.Core.Path.{_≡_, refl, sym, ap, ap₂, _∙_}
 use mathlib.Core.Bool.{Bool, true, false, not, _&&_, _||_}
 use mathlib.Core.List.{List, [], _∷_, map}
 use mathlib.Core.Option.{some}
-use lib.Dec.{T, leb, ltb}
-use lib.ListN.{length}
+use lib.Dec.{leb, ltb}
+use lib.ListN.{length, length-map}
 use borrow.Author.Tests.{leb-true, leb-false, lt-ltb, le-ltb}
 use Rattle.paper.specs.Sizes.{maxRows, maxRowPlaces, maxPackBytes, maxFlatRow, bmpSize}
-use Rattle.paper.specs.Lists.{all, any, sum}
-use Rattle.paper.specs.CharDef.Reading.{Reading, Within}
-use Rattle.paper.specs.Rows.Covering.{rows}
-use Rattle.paper.specs.Rows.Flat.{shortRows, flatPool}
-use Rattle.paper.specs.Rows.Build.{rowsNeeded, placesNeeded, rowOverlong, rowRoomShort, flatRoomShort, writeRoomShort, built, rowsBuilt, flatBuilt, packWritten}
-use Rattle.paper.specs.Pack.Rules.{PackRules, numbered}
+use Rattle.paper.specs.Lists.{all, any}
+use Rattle.paper.specs.CharDef.Reading.{Reading}
+use Rattle.paper.specs.Rows.Covering.{boundaries, rows}
+use Rattle.paper.specs.Rows.Flat.{shortRows, flatIndex, flatPool}
+use Rattle.paper.specs.Rows.Build.{rowsNeeded, placesNeeded, rowOverlong, built, rowsBuilt, flatBuilt, packWritten, offsets}
+use Rattle.paper.specs.Pack.Rules.{PackRules}
+use Rattle.paper.proofs.Rows.Boundaries.{row-for-each}
 use Rattle.paper.proofs.Rows.Sizes.{boundaries-fit, places-fit}
-use Rattle.paper.proofs.Rows.Flat.{joined-length}
+use Rattle.paper.proofs.Rows.Flat.{joined-length, index-length}
 use Rattle.paper.proofs.Pack.Size.{pack-length}
 
 above : (m n : ℕ) → ltb m n ≡ not (leb n m)
@@ -40,10 +41,29 @@ overlong-is r = go (rows r)
     go [] = refl
     go (w ∷ ws) = ap₂ (λ x y. x || y) (above maxFlatRow (length w)) (go ws) ∙ demorgan (leb (length w) maxFlatRow) _
 
--- as many places as the pool holds
-pub places-are : (r : Reading) → placesNeeded r ≡ length (flatPool r)
-unfolding placesNeeded flatPool
-places-are r = sym (joined-length (rows r))
+pub offsets-length : (at : ℕ) (ws : List (List ℕ)) → length (offsets at ws) ≡ length ws
+unfolding offsets
+offsets-length at [] = refl
+offsets-length at (w ∷ ws) = ap suc (offsets-length (at + length w) ws)
+
+-- the exact needs are the lengths of what is filled
+pub record Exact (r : Reading) : Type 0 where
+  pub of-boundaries : rowsNeeded r ≡ length (boundaries r)
+  pub of-starts : rowsNeeded r ≡ length (offsets 0 (rows r))
+  pub of-lengths : rowsNeeded r ≡ length (map length (rows r))
+  pub of-pool : placesNeeded r ≡ length (flatPool r)
+  pub of-index : bmpSize ≡ length (flatIndex r)
+
+pub exact : (r : Reading) → Exact r
+unfolding rowsNeeded placesNeeded flatPool
+exact r =
+    record {
+      of-boundaries = refl;
+      of-starts = sym (offsets-length 0 (rows r) ∙ row-for-each r);
+      of-lengths = sym (length-map (rows r) length ∙ row-for-each r);
+      of-pool = sym (joined-length (rows r));
+      of-index = sym (index-length r);
+    }
 
 -- ---- rooms of the full sizes
 

@@ -1,6 +1,6 @@
 -- The laws of the covering rule leave one row: a list without repeats is decided by its elements and their order.
 -- Assumes nothing.
-use Prim.Native.Nat.{ℕ, zero, suc, _<_, _≤_, zero-le, suc-le-suc}
+use Prim.Native.Nat.{ℕ, zero, suc, _≤_, zero-le, suc-le-suc}
 use native.Mathlib.Omega.{arith}
 use mathlib.Core.Path.{_≡_, refl, sym, ap, ap₂, _∙_, subst}
 use mathlib.Core.Bool.{Bool, true, false, not, cond, _&&_, _||_}
@@ -10,7 +10,7 @@ use lib.ListN.{length}
 use mir.Facts.{and-yes}
 use borrow.Author.Tests.{eqb-true, ltb-false, le-ltb}
 use Rattle.paper.specs.Lists.{any, positionOf, distinct}
-use Rattle.paper.specs.CharDef.Reading.{Range, Reading}
+use Rattle.paper.specs.CharDef.Reading.{Reading}
 use Rattle.paper.specs.Rows.Covering.{holds, covers, named}
 use Rattle.paper.proofs.Lists.Facts.{T→true, T→false}
 use Rattle.paper.proofs.Rows.Sizes.{fresh-distinct}

@@ -1,12 +1,11 @@
 -- The flat entry of a code point names the part of the pool that holds its row, and fits 24 and 8 bits. Idea: rows stand one behind
 -- another, so row i begins where the earlier ones end.
 -- Assumes nothing.
-use Prim.Native.Nat.{ℕ, zero, suc, _+_, _*_, _/_, _%_, _<_, _≤_, zero-le, suc-le-suc}
+use Prim.Native.Nat.{ℕ, zero, suc, _+_, _<_, _≤_, zero-le}
 use native.Mathlib.Nat.{le-of-suc-le-suc, not-suc-le-zero}
 use native.Mathlib.Omega.{arith}
-use mathlib.Core.Path.{_≡_, refl, sym, ap, _∙_}
-use mathlib.Core.Bool.{Bool}
-use mathlib.Core.List.{List, [], _∷_, _++_, map}
+use mathlib.Core.Path.{_≡_, refl, ap, _∙_}
+use mathlib.Core.List.{List, [], _∷_, map}
 use lib.Dec.{T, leb}
 use lib.ListN.{length, getD, take, drop, length-append, length-map}
 use lib.Seq.{take-append-seam, drop-append-add}

@@ -5,7 +5,7 @@ use Prim.Native.Nat.{ℕ, _*_, _<_, _≤_}
 use mathlib.Core.Path.{_≡_, sym, ap, ap₂, _∙_, subst}
 use mathlib.Core.Bool.{not, _&&_}
 use mathlib.Core.List.{List, [], map}
-use mathlib.Core.Option.{Option, some}
+use mathlib.Core.Option.{some}
 use lib.Dec.{T, ltb, eqb}
 use lib.ListN.{length, getD, drop, take-append-drop}
 use Rattle.paper.specs.Sizes.{maxRows, maxRowPlaces, maxU32, bmpSize}
@@ -18,7 +18,7 @@ use Rattle.paper.specs.Rows.Flat.{evalRow, entryOffset, entryLength, max
 use Rattle.paper.specs.Rows.Lookup.{Looked, gives, refuses, LookupTables, Part, ofFlat, Looks, packedAt, FlatLeft, AsBuilt, without-flat, with-flat}
 use Rattle.paper.specs.Rows.Numbers.{lowest, findName, definitionAt, nameAt, lookupDefinition, categoryName, nameOf}
 use Rattle.paper.specs.Pack.Rules.{PackRules}
-use Rattle.paper.specs.Tables.Layout.{Tables, used, behind, layout, countsOf}
+use Rattle.paper.specs.Tables.Layout.{Tables, used, behind}
 use Rattle.paper.specs.Tables.HandedIn.{HoldTogether}
 use Rattle.paper.specs.Computed.HandedIn.{handedIn}
 use Rattle.paper.specs.declared.Counts.{Counts}
@@ -28,6 +28,7 @@ use Rattle.paper.proofs.Rows.Sizes.{rows-fit, places-fit}
 use Rattle.paper.proofs.Rows.Covered.{no-repeats, exactly-covered, first-sight-order, categories-named, categories-default}
 use Rattle.paper.proofs.Rows.Search.{every-row}
 use Rattle.paper.proofs.Rows.Flat.{flat-part, offset-fits, entry-fits}
+use Rattle.paper.proofs.Rows.Build.{Exact, exact}
 use Rattle.paper.proofs.Rows.Lookup.{no-scalar, looks-one, looks-some, packed-same}
 use Rattle.paper.proofs.Rows.AsBuilt.{Holds, looked-up, packed-there}
 use Rattle.paper.proofs.Rows.Numbers.{name-found, name-back, number-name, number-definition}
@@ -40,6 +41,8 @@ pub record Lookups (r : Reading) : Type 0 where
   pub a-row-each : length (rows r) ≡ length (boundaries r)
   pub rows-few : length (rows r) ≤ maxRows
   pub places-few : sum (map length (rows r)) ≤ maxRowPlaces
+  -- what 17 asks for is what is filled
+  pub needs : Exact r
   -- at every number, by rows and by flat entries
   pub by-row : (c : ℕ) → evalRow (boundaries r) (rows r) c ≡ categoriesAt r c
   pub by-entry : (c : ℕ) → T (shortRows (rows r)) → entryPart (flatEntry r c) (flatPool r) ≡ categoriesAt r c
@@ -102,6 +105,7 @@ lookups bytes r f = go (fits-rules bytes r f)
           a-row-each = row-for-each r;
           rows-few = rows-fit r (k .limits);
           places-few = places-fit r (k .limits) (k .known);
+          needs = exact r;
           by-row = every-row r;
           by-entry = flat-part r;
           offset-fits = λ c. offset-fits r c (k .limits) (k .known);

@@ -5,9 +5,9 @@ use Prim.Native.Nat.{ℕ, zero, suc, _+_, _*_, _<_, _≤_}
 use native.Mathlib.Nat.{le-of-suc-le-suc, not-suc-le-zero, mul-suc, mul-zero}
 use native.Mathlib.Omega.{arith}
 use mathlib.Core.Path.{_≡_, refl, sym, ap, ap₂, _∙_, subst}
-use mathlib.Core.Bool.{Bool, true, false, not, cond, _&&_, _||_}
+use mathlib.Core.Bool.{Bool, true, false, cond, _||_}
 use mathlib.Core.List.{List, [], _∷_, map}
-use mathlib.Core.Option.{Option, none, some}
+use mathlib.Core.Option.{none, some}
 use lib.Dec.{T, leb, ltb, eqb, eqb→eq}
 use lib.ListN.{length, getD, take, drop, length-map}
 use lib.Seq.{drop-drop}
@@ -15,9 +15,9 @@ use mir.Facts.{and-yes, leb-yes}
 use borrow.Author.Tests.{leb-true, leb-false, le-ltb}
 use Rattle.paper.specs.Refusals.{numberUnknown}
 use Rattle.paper.specs.Lists.{all, any}
-use Rattle.paper.specs.CharDef.Reading.{Definition, Reading}
+use Rattle.paper.specs.CharDef.Reading.{Reading}
 use Rattle.paper.specs.Pack.Rules.{once}
-use Rattle.paper.specs.Rows.Lookup.{Looked, gives, refuses}
+use Rattle.paper.specs.Rows.Lookup.{gives, refuses}
 use Rattle.paper.specs.Rows.Numbers.{slotWidth, definitionWidth, nameSlotsOf, nameIn, pastStore, lowest, findName, numberOf, definitionAt, nameAt, entryAt, lookupDefinition, categoryName, nameOf}
 use Rattle.paper.specs.Tables.Layout.{NameSlot, Tables, pieces, nameSlotOf, definitionOf, split}
 use Rattle.paper.specs.Computed.HandedIn.{nameSlotsStand, slotsStand, flagged, nameSlotsIn, namesIn, slotsIn, numbersIn, enough, decoded, holds, handedIn}

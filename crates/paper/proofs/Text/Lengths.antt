@@ -3,12 +3,12 @@
 use Prim.Native.Nat.{ℕ, _+_, _*_, _/_, _%_, _<_, _≤_}
 use native.Mathlib.Omega.{arith}
 use mathlib.Core.Path.{_≡_, refl}
-use mathlib.Core.Bool.{Bool, true, false, cond, _&&_}
+use mathlib.Core.Bool.{Bool, true, false, cond}
 use mathlib.Core.List.{List, [], _∷_}
-use lib.Dec.{T, eqb}
+use lib.Dec.{eqb}
 use borrow.Author.Tests.{eqb-true, le-leb, lt-leb}
 use Rattle.paper.specs.Text.Scalar.{between, utf8Of}
-use Rattle.paper.specs.Computed.Decode.{First, bad, good, lowest, highest, isTail, first, Text, broken, chars}
+use Rattle.paper.specs.Computed.Decode.{bad, good, lowest, highest, isTail, first, broken, chars}
 use Rattle.paper.proofs.Lists.Facts.{T→true}
 use Rattle.paper.proofs.CharDef.Sound.{zero-one}
 use Rattle.paper.proofs.Text.Scalar.{yes-between}

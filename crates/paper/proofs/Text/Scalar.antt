@@ -3,7 +3,7 @@
 use Prim.Native.Nat.{ℕ, _≤_, _<_}
 use native.Mathlib.Omega.{arith}
 use mathlib.Core.Logic.{_⊎_, inl, inr}
-use mathlib.Core.Bool.{Bool, not, _&&_, _||_}
+use mathlib.Core.Bool.{not}
 use lib.Dec.{T, leb}
 use mir.Facts.{and-yes, yes-and, or-yes, not-T, leb-yes, yes-leb}
 use Rattle.paper.specs.Text.Scalar.{between, isScalar}

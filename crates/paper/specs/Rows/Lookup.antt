@@ -107,7 +107,7 @@ packedAt index c =
 
 -- ---- tables as built
 
--- l is x, with perhaps more behind it in the lent room
+-- l is x, with perhaps more behind it in the lent room; the lengths of boundaries and index count, so these are lent as they are
 abbrev pub Begins : List ℕ → List ℕ → Type 0
 Begins l x = take (length x) l ≡ x
 
