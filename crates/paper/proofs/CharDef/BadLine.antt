@@ -24,14 +24,11 @@ use Rattle.paper.proofs.CharDef.Sound.{false→T, zero-one, numeral-sou
 use Rattle.paper.proofs.CharDef.Complete.{numeral-read, line-complete}
 use Rattle.paper.proofs.CharDef.Whole.{lines-sound, lines-complete, refused-accepted}
 use Rattle.paper.proofs.CharDef.Bodies.{sep-white, has-body, body-is, fields-words, has-fields}
-use Rattle.paper.proofs.CharDef.Bounds.{Cuts, uncut, cut-at, parts-cuts, many-wrong, parts-bounds, Judged, good, bad, judged, bad-read, good-read}
+use Rattle.paper.proofs.CharDef.Bounds.{Cuts, uncut, cut-at, parts-cuts, none-some, many-wrong, parts-bounds, Judged, good, bad, judged, bad-read, good-read}
 use Rattle.paper.proofs.CharDef.Limits.{enter-past, past-enter}
 
 found-wrong {ℓ} : {X : Type ℓ} {l : Line} {n : ℕ} → found l ≡ wrong n → X
 found-wrong e = zero-one (cc)
-
-none-some {ℓ} : {X : Type ℓ} {n : ℕ} → none ≡ some n → X
-none-some e = zero-one (cc)
 
 -- ---- range lines
 
