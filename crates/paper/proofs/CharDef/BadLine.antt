@@ -10,8 +10,8 @@ use mathlib.Core.Option.{Option, none, some}
 use mathlib.Core.List.{List, [], _∷_, _++_}
 use lib.Dec.{T, lit≤}
 use lib.ListN.{length}
-use Rattle.paper.specs.Sizes.{maxU32}
-use Rattle.paper.specs.Refusals.{rangeParts, boundUnreadable, boundMark, categoryFields, categoryNumber, rangesFull, categoriesFull, nameBytesFull}
+use Rattle.paper.specs.Sizes.{maxU32, maxCategoryLines, maxRanges}
+use Rattle.paper.specs.Refusals.{rangeParts, boundUnreadable, boundMark, categoryFields, categoryNumber, rangesFull, categoryLinesFull, categoriesFull, nameBytesFull}
 use Rattle.paper.specs.Lists.{words}
 use Rattle.paper.specs.Text.Scalar.{isWhite, isSep, dot}
 use Rattle.paper.specs.CharDef.Line.{Line, LineFits, begins0x}
@@ -24,14 +24,11 @@ use Rattle.paper.proofs.CharDef.Sound.{false→T, zero-one, numeral-sou
 use Rattle.paper.proofs.CharDef.Complete.{numeral-read, line-complete}
 use Rattle.paper.proofs.CharDef.Whole.{lines-sound, lines-complete, refused-accepted}
 use Rattle.paper.proofs.CharDef.Bodies.{sep-white, has-body, body-is, fields-words, has-fields}
-use Rattle.paper.proofs.CharDef.Bounds.{Cuts, uncut, cut-at, parts-cuts, many-wrong, parts-bounds, Judged, good, bad, judged, bad-read, good-read}
+use Rattle.paper.proofs.CharDef.Bounds.{Cuts, uncut, cut-at, parts-cuts, none-some, many-wrong, parts-bounds, Judged, good, bad, judged, bad-read, good-read}
 use Rattle.paper.proofs.CharDef.Limits.{enter-past, past-enter}
 
 found-wrong {ℓ} : {X : Type ℓ} {l : Line} {n : ℕ} → found l ≡ wrong n → X
 found-wrong e = zero-one (cc)
-
-none-some {ℓ} : {X : Type ℓ} {n : ℕ} → none ≡ some n → X
-none-some e = zero-one (cc)
 
 -- ---- range lines
 
@@ -220,6 +217,15 @@ past-number (category-name h f) = let k = room-number (f .over) in omega arith
 pub bad-number : {r : Reading} {cs : List ℕ} {n : ℕ} → BadLine r cs n → (rangeParts ≤ n) × (n ≤ nameBytesFull)
 bad-number (misfit m) = let h = misfit-number m in omega arith
 bad-number (past-limit f p) = let h = past-number p in omega arith
+
+-- behind lines that keep the limits, 9 is given to range 2,049 and 11 to category line 513, and to no later one
+pub at-limit : {r : Reading} {l : Line} {n : ℕ} → Within r → PastLimit r l n
+    → (n ≡ rangesFull → length (r .ranges) ≡ maxRanges) × (n ≡ categoryLinesFull → length (r .definitions) ≡ maxCategoryLines)
+at-limit w (range-over h) = let k = w .ranges-fit in omega arith
+at-limit w (references-over h i) = omega arith
+at-limit w (range-name h i f) = let k = room-number (f .over) in omega arith
+at-limit w (line-over h) = let k = w .definitions-fit in omega arith
+at-limit w (category-name h f) = let k = room-number (f .over) in omega arith
 
 -- a line is bad, or it says a line with which the limits are kept
 pub bad-or-entered : (ls : List Line) (cs : List ℕ) → Within (readingOf ls)

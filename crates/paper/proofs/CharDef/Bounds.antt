@@ -178,7 +178,7 @@ hex-found part code h =
     let (k, e) = strip-front part in
     record { times = k; numeral = strip0x part; whole = e; number = numeral-sound 16 maxU16 (strip0x part) code h }
 
-none-some {ℓ} : {X : Type ℓ} {n : ℕ} → none ≡ some n → X
+pub none-some {ℓ} : {X : Type ℓ} {n : ℕ} → none ≡ some n → X
 none-some e = zero-one (cc)
 
 -- a bound, or what is wrong with it
