@@ -14,7 +14,7 @@ use borrow.Author.Tests.{le-leb, lt-leb, leb-true, leb-false, eq-eqb, ne-eqb}
 use Rattle.paper.specs.Text.Scalar.{between, In, Tail}
 use Rattle.paper.specs.Computed.Decode.{First, bad, good, lowest, highest, isTail, two, three, four, first}
 use Rattle.paper.proofs.Lists.Facts.{below, from-below, true→T}
-use Rattle.text.specs.Classes.{ascii, tail, lead2, lead3, lead4, leadE0, leadED, leadF0, leadF4, classOf}
+use Rattle.text.specs.Classes.{tail, lead2, lead3, lead4, leadE0, leadED, leadF0, leadF4, classOf}
 use Rattle.text.specs.Answers.{Second}
 
 -- ---- tests over the octets
@@ -98,25 +98,18 @@ module _ {a : ℕ} (o : a < 256) where
   pub no-tail : (classOf a ≡ tail → ⊥) → isTail a ≡ false
   no-tail n = sym tail-test ∙ ne-eqb (classOf a) tail n
 
-  ascii-test : eqb (classOf a) ascii ≡ leb a 0x7F
-  unfolding classOf
-  ascii-test = octets (λ b. eqb (classOf b) ascii) (λ b. leb b 0x7F) tt o
-
-  pub is-ascii : classOf a ≡ ascii → a ≤ 0x7F
-  is-ascii e = leb-true a 0x7F (sym ascii-test ∙ eq-eqb (classOf a) ascii e)
-
   lead-test : between lead2 leadF4 (classOf a) ≡ between 0xC2 0xF4 a
   unfolding classOf
   lead-test = octets (λ b. between lead2 leadF4 (classOf b)) (between 0xC2 0xF4) tt o
 
   -- an octet that begins no character
-  pub first-none : (s : List ℕ) → (classOf a ≡ ascii → ⊥) → (In lead2 leadF4 (classOf a) → ⊥) → first a s ≡ bad
+  pub first-none : (s : List ℕ) → 0x80 ≤ a → (In lead2 leadF4 (classOf a) → ⊥) → first a s ≡ bad
   unfolding first
   first-none s n m =
       go (leb a 0xC1) (leb a 0xDF) (leb a 0xEF) (leb a 0xF4) refl refl refl refl
     where
       high : leb a 0x7F ≡ false
-      high = sym ascii-test ∙ ne-eqb (classOf a) ascii n
+      high = lt-leb a 0x7F n
 
       out : (0xC2 ≤ a → a ≤ 0xF4 → ⊥)
       out l h =

@@ -1,15 +1,14 @@
 // UTF-8 by RFC 3629: a class for each byte value, the longest well-formed prefix, the character at a place; and White_Space.
 ghost use mathlib.Core.Path.{_≡_};
-ghost use Prim.Native.Nat.{_+_, _<_};
+ghost use Prim.Native.Nat.{_+_, _≤_, _<_};
 ghost use lib.ListN.{length, drop, getD};
 ghost use Rattle.paper.specs.Text.Scalar.{isWhite, LongestPrefix};
 ghost use Rattle.paper.specs.Computed.Decode.{two, three, four};
-ghost use Rattle.text.specs.Classes.{classOf};
+ghost use Rattle.text.specs.Classes.{classOf, ByClass};
 ghost use Rattle.text.specs.Answers.{NextIs, whiteWidth, nextBy, Second};
 
-// The classes that RFC 3629, section 4, tells apart. Each is a digit, so that the table below can be read.
-const ASCII: u8 = b'0'; // 00-7F, a character by itself
-
+// The classes that RFC 3629, section 4, tells apart. Each is a digit, so that the table below can be read: 0 is ASCII, a character
+// by itself, and 9 an octet in no character.
 const TAIL: u8 = b'1'; // 80-BF
 
 const LEAD_2: u8 = b'2'; // C2-DF
@@ -26,7 +25,7 @@ const LEAD_F0: u8 = b'7'; // 90-BF follows
 
 const LEAD_F4: u8 = b'8'; // 80-8F follows
 
-// The class of each byte value, sixteen to a row; 9 is a byte that is in no character.
+// The class of each byte value, sixteen to a row.
 const CLASS: [u8; 256] = *b"\
     0000000000000000\
     0000000000000000\
@@ -45,10 +44,18 @@ const CLASS: [u8; 256] = *b"\
     5333333333333633\
     7444899999999999";
 
-fn class(b: u8) -> u8
+// The table, made once by whoever looks up many classes: where a constant array is indexed by name it is made anew each time.
+fn classes() -> [u8; 256]
+    ensures { λ r. ⌜ ByClass r ⌝ }
+{
+    CLASS
+}
+
+fn class(table: &[u8; 256], b: u8) -> u8
+    requires { ⌜ ByClass (now table) ⌝ }
     ensures { λ r. ⌜ r ≡ classOf b ⌝ }
 {
-    CLASS[b as usize]
+    table[b as usize]
 }
 
 // A character and the place behind it.
@@ -65,8 +72,9 @@ pub enum Next {
 }
 
 // UTF8-2.
-fn two_octets(s: &[u8], at: usize) -> Next
+fn two_octets<'a>(s: &'a [u8], at: usize, table: &'a [u8; 256]) -> Next
     requires { ⌜ at < length (now s) ⌝ }
+    requires { ⌜ ByClass (now table) ⌝ }
     ensures { λ r. ⌜ r ≡ nextBy at (two (getD (now (s .entry)) at 0) (drop (at + 1) (now (s .entry)))) ⌝ }
 {
     if s.len() - at < 2 {
@@ -74,7 +82,7 @@ fn two_octets(s: &[u8], at: usize) -> Next
     }
     let a = s[at];
     let b = s[at + 1];
-    if class(b) != TAIL {
+    if class(table, b) != TAIL {
         return Next::Bad;
     }
     Next::Char(Scalar {
@@ -84,8 +92,9 @@ fn two_octets(s: &[u8], at: usize) -> Next
 }
 
 // UTF8-3, its second octet from `low` to `high`.
-fn three_octets(s: &[u8], at: usize, low: u8, high: u8) -> Next
+fn three_octets<'a>(s: &'a [u8], at: usize, table: &'a [u8; 256], low: u8, high: u8) -> Next
     requires { ⌜ at < length (now s) ⌝ }
+    requires { ⌜ ByClass (now table) ⌝ }
     requires { ⌜ Second (getD (now s) at 0) low high ⌝ }
     ensures { λ r. ⌜ r ≡ nextBy at (three (getD (now (s .entry)) at 0) (drop (at + 1) (now (s .entry)))) ⌝ }
 {
@@ -101,7 +110,7 @@ fn three_octets(s: &[u8], at: usize, low: u8, high: u8) -> Next
     if high < b {
         return Next::Bad;
     }
-    if class(c) != TAIL {
+    if class(table, c) != TAIL {
         return Next::Bad;
     }
     Next::Char(Scalar {
@@ -111,8 +120,9 @@ fn three_octets(s: &[u8], at: usize, low: u8, high: u8) -> Next
 }
 
 // UTF8-4, its second octet from `low` to `high`.
-fn four_octets(s: &[u8], at: usize, low: u8, high: u8) -> Next
+fn four_octets<'a>(s: &'a [u8], at: usize, table: &'a [u8; 256], low: u8, high: u8) -> Next
     requires { ⌜ at < length (now s) ⌝ }
+    requires { ⌜ ByClass (now table) ⌝ }
     requires { ⌜ Second (getD (now s) at 0) low high ⌝ }
     ensures { λ r. ⌜ r ≡ nextBy at (four (getD (now (s .entry)) at 0) (drop (at + 1) (now (s .entry)))) ⌝ }
 {
@@ -129,10 +139,10 @@ fn four_octets(s: &[u8], at: usize, low: u8, high: u8) -> Next
     if high < b {
         return Next::Bad;
     }
-    if class(c) != TAIL {
+    if class(table, c) != TAIL {
         return Next::Bad;
     }
-    if class(d) != TAIL {
+    if class(table, d) != TAIL {
         return Next::Bad;
     }
     Next::Char(Scalar {
@@ -141,38 +151,53 @@ fn four_octets(s: &[u8], at: usize, low: u8, high: u8) -> Next
     })
 }
 
+// The character of two octets or more at `at`.
+fn octets_at<'a>(s: &'a [u8], at: usize, table: &'a [u8; 256]) -> Next
+    requires { ⌜ at < length (now s) ⌝ }
+    requires { ⌜ ByClass (now table) ⌝ }
+    requires { ⌜ 0x80 ≤ getD (now s) at 0 ⌝ }
+    ensures { λ r. ⌜ NextIs (now (s .entry)) at r ⌝ }
+{
+    match class(table, s[at]) {
+        LEAD_2 => two_octets(s, at, table),
+        LEAD_E0 => three_octets(s, at, table, 0xA0, 0xBF),
+        LEAD_3 => three_octets(s, at, table, 0x80, 0xBF),
+        LEAD_ED => three_octets(s, at, table, 0x80, 0x9F),
+        LEAD_F0 => four_octets(s, at, table, 0x90, 0xBF),
+        LEAD_4 => four_octets(s, at, table, 0x80, 0xBF),
+        LEAD_F4 => four_octets(s, at, table, 0x80, 0x8F),
+        _ => Next::Bad,
+    }
+}
+
 pub fn next_char(s: &[u8], at: usize) -> Next
     ensures { λ r. ⌜ NextIs (now (s .entry)) at r ⌝ }
 {
     if s.len() <= at {
         return Next::End;
     }
-    match class(s[at]) {
-        ASCII => Next::Char(Scalar {
-            value: s[at] as u32,
+    let a = s[at];
+    if a < 0x80 {
+        return Next::Char(Scalar {
+            value: a as u32,
             next: at + 1,
-        }),
-        LEAD_2 => two_octets(s, at),
-        LEAD_E0 => three_octets(s, at, 0xA0, 0xBF),
-        LEAD_3 => three_octets(s, at, 0x80, 0xBF),
-        LEAD_ED => three_octets(s, at, 0x80, 0x9F),
-        LEAD_F0 => four_octets(s, at, 0x90, 0xBF),
-        LEAD_4 => four_octets(s, at, 0x80, 0xBF),
-        LEAD_F4 => four_octets(s, at, 0x80, 0x8F),
-        _ => Next::Bad,
+        });
     }
+    let table = classes();
+    octets_at(s, at, &table)
 }
 
 // The length of the longest well-formed prefix.
 pub fn valid_prefix(s: &[u8]) -> usize
     ensures { λ r. ⌜ LongestPrefix r (now (s .entry)) ⌝ }
 {
+    let table = classes();
     let mut at = 0;
     while at < s.len() {
         if s[at] < 0x80 {
             at += 1;
         } else {
-            let Next::Char(c) = next_char(s, at) else {
+            let Next::Char(c) = octets_at(s, at, &table) else {
                 return at;
             };
             at = c.next;

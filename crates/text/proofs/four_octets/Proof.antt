@@ -43,12 +43,12 @@ shared-slice-read-d c = search needs
 returns-2 : tie.Need-returns-2
 returns-2 c =
     let a = (c .before .before .before .before .before .before .before .args) in
-    ap (nextBy (a .at)) (sym (four-by (now (a .s)) (a .at) ((c .before .before .before .before .before .if1 .left)) false _ _ (too-low ((c .before .before .before .before .before .before .before .pre .1)) ((c .if2 .taken))) refl refl))
+    ap (nextBy (a .at)) (sym (four-by (now (a .s)) (a .at) ((c .before .before .before .before .before .if1 .left)) false _ _ (too-low ((c .before .before .before .before .before .before .before .pre .1 .1)) ((c .if2 .taken))) refl refl))
 
 returns-3 : tie.Need-returns-3
 returns-3 c =
     let a = (c .before .before .before .before .before .before .before .before .args) in
-    ap (nextBy (a .at)) (sym (four-by (now (a .s)) (a .at) ((c .before .before .before .before .before .before .if1 .left)) false _ _ (too-high ((c .before .before .before .before .before .before .before .before .pre .1)) ((c .if3 .taken))) refl refl))
+    ap (nextBy (a .at)) (sym (four-by (now (a .s)) (a .at) ((c .before .before .before .before .before .before .if1 .left)) false _ _ (too-high ((c .before .before .before .before .before .before .before .before .pre .1 .1)) ((c .if3 .taken))) refl refl))
 
 class-requires : tie.Need-class-requires
 class-requires c κs = search needs
@@ -56,7 +56,7 @@ class-requires c κs = search needs
 returns-4 : tie.Need-returns-4
 returns-4 c =
     let a = (c .before .before .before .before .before .before .before .before .before .before .args) in
-    ap (nextBy (a .at)) (sym (four-by (now (a .s)) (a .at) ((c .before .before .before .before .before .before .before .before .if1 .left)) true false _ (just-so ((c .before .before .before .before .before .before .before .before .before .before .pre .1)) ((c .before .before .before .if2 .left)) ((c .before .before .if3 .left))) (no-tail ((c .before .before .before .before .before .shared-slice-known4 .given) (a .at + 2) .fits) (λ e. (c .if4 .taken) ((c .before .class .ensures) ∙ e))) refl))
+    ap (nextBy (a .at)) (sym (four-by (now (a .s)) (a .at) ((c .before .before .before .before .before .before .before .before .if1 .left)) true false _ (just-so ((c .before .before .before .before .before .before .before .before .before .before .pre .1 .1)) ((c .before .before .before .if2 .left)) ((c .before .before .if3 .left))) (no-tail ((c .before .before .before .before .before .shared-slice-known4 .given) (a .at + 2) .fits) (λ e. (c .if4 .taken) ((c .before .class .ensures) ∙ e))) refl))
 
 class-requires-2 : tie.Need-class-requires-2
 class-requires-2 c κs = search needs
@@ -64,45 +64,45 @@ class-requires-2 c κs = search needs
 returns-5 : tie.Need-returns-5
 returns-5 c =
     let a = (c .before .before .before .before .before .before .before .before .before .before .before .before .args) in
-    ap (nextBy (a .at)) (sym (four-by (now (a .s)) (a .at) ((c .before .before .before .before .before .before .before .before .before .before .if1 .left)) true true false (just-so ((c .before .before .before .before .before .before .before .before .before .before .before .before .pre .1)) ((c .before .before .before .before .before .if2 .left)) ((c .before .before .before .before .if3 .left))) (is-tail ((c .before .before .before .before .before .before .before .shared-slice-known4 .given) (a .at + 2) .fits) (sym ((c .before .before .before .class .ensures)) ∙ (c .before .before .if4 .left))) (no-tail ((c .before .before .before .before .before .before .shared-slice-known5 .given) (a .at + 3) .fits) (λ e. (c .if5 .taken) ((c .before .class2 .ensures) ∙ e)))))
+    ap (nextBy (a .at)) (sym (four-by (now (a .s)) (a .at) ((c .before .before .before .before .before .before .before .before .before .before .if1 .left)) true true false (just-so ((c .before .before .before .before .before .before .before .before .before .before .before .before .pre .1 .1)) ((c .before .before .before .before .before .if2 .left)) ((c .before .before .before .before .if3 .left))) (is-tail ((c .before .before .before .before .before .before .before .shared-slice-known4 .given) (a .at + 2) .fits) (sym ((c .before .before .before .class .ensures)) ∙ (c .before .before .if4 .left))) (no-tail ((c .before .before .before .before .before .before .shared-slice-known5 .given) (a .at + 3) .fits) (λ e. (c .if5 .taken) ((c .before .class2 .ensures) ∙ e)))))
 
-cast-t17 : tie.Need-cast-t17
-cast-t17 c = omega (arith, (c .before .before .before .before .before .before .before .before .before .shared-slice-known2 .given) ((c .before .before .before .before .before .before .before .before .before .before .before .before .args .at)))
+cast-t18 : tie.Need-cast-t18
+cast-t18 c = omega (arith, (c .before .before .before .before .before .before .before .before .before .shared-slice-known2 .given) ((c .before .before .before .before .before .before .before .before .before .before .before .before .args .at)))
 
-mul-t19 : tie.Need-mul-t19
-mul-t19 c = search needs
+mul-t20 : tie.Need-mul-t20
+mul-t20 c = search needs
 
-cast-t20 : tie.Need-cast-t20
-cast-t20 c = omega (arith, (c .before .before .before .before .before .before .before .before .shared-slice-known3 .given) ((c .before .before .before .before .before .before .before .before .before .before .before .before .args .at) + 1))
+cast-t21 : tie.Need-cast-t21
+cast-t21 c = omega (arith, (c .before .before .before .before .before .before .before .before .shared-slice-known3 .given) ((c .before .before .before .before .before .before .before .before .before .before .before .before .args .at) + 1))
 
-add-t22 : tie.Need-add-t22
-add-t22 c = search needs
+add-t23 : tie.Need-add-t23
+add-t23 c = search needs
 
-mul-t23 : tie.Need-mul-t23
-mul-t23 c = search needs
+mul-t24 : tie.Need-mul-t24
+mul-t24 c = search needs
 
-cast-t24 : tie.Need-cast-t24
-cast-t24 c = omega (arith, (c .before .before .before .before .before .before .before .shared-slice-known4 .given) ((c .before .before .before .before .before .before .before .before .before .before .before .before .args .at) + 2))
+cast-t25 : tie.Need-cast-t25
+cast-t25 c = omega (arith, (c .before .before .before .before .before .before .before .shared-slice-known4 .given) ((c .before .before .before .before .before .before .before .before .before .before .before .before .args .at) + 2))
 
-add-t26 : tie.Need-add-t26
-add-t26 c = search needs
+add-t27 : tie.Need-add-t27
+add-t27 c = search needs
 
-mul-t27 : tie.Need-mul-t27
-mul-t27 c = search needs
+mul-t28 : tie.Need-mul-t28
+mul-t28 c = search needs
 
-cast-t28 : tie.Need-cast-t28
-cast-t28 c = omega (arith, (c .before .before .before .before .before .before .shared-slice-known5 .given) ((c .before .before .before .before .before .before .before .before .before .before .before .before .args .at) + 3))
+cast-t29 : tie.Need-cast-t29
+cast-t29 c = omega (arith, (c .before .before .before .before .before .before .shared-slice-known5 .given) ((c .before .before .before .before .before .before .before .before .before .before .before .before .args .at) + 3))
 
-add-t30 : tie.Need-add-t30
-add-t30 c = search needs
+add-t31 : tie.Need-add-t31
+add-t31 c = search needs
 
-add-t9 : tie.Need-add-t9
-add-t9 c = search needs
+add-t10 : tie.Need-add-t10
+add-t10 c = search needs
 
 returns-6 : tie.Need-returns-6
 returns-6 c =
     let a = (c .before .before .before .before .before .before .before .before .before .before .before .before .args) in
-    ap (nextBy (a .at)) (sym (four-by (now (a .s)) (a .at) ((c .before .before .before .before .before .before .before .before .before .before .if1 .left)) true true true (just-so ((c .before .before .before .before .before .before .before .before .before .before .before .before .pre .1)) ((c .before .before .before .before .before .if2 .left)) ((c .before .before .before .before .if3 .left))) (is-tail ((c .before .before .before .before .before .before .before .shared-slice-known4 .given) (a .at + 2) .fits) (sym ((c .before .before .before .class .ensures)) ∙ (c .before .before .if4 .left))) (is-tail ((c .before .before .before .before .before .before .shared-slice-known5 .given) (a .at + 3) .fits) (sym ((c .before .class2 .ensures)) ∙ (c .if5 .left)))))
+    ap (nextBy (a .at)) (sym (four-by (now (a .s)) (a .at) ((c .before .before .before .before .before .before .before .before .before .before .if1 .left)) true true true (just-so ((c .before .before .before .before .before .before .before .before .before .before .before .before .pre .1 .1)) ((c .before .before .before .before .before .if2 .left)) ((c .before .before .before .before .if3 .left))) (is-tail ((c .before .before .before .before .before .before .before .shared-slice-known4 .given) (a .at + 2) .fits) (sym ((c .before .before .before .class .ensures)) ∙ (c .before .before .if4 .left))) (is-tail ((c .before .before .before .before .before .before .shared-slice-known5 .given) (a .at + 3) .fits) (sym ((c .before .class2 .ensures)) ∙ (c .if5 .left)))))
 
 pub four-octets-spec : {M : Type 1} → statement M
 four-octets-spec =
@@ -123,15 +123,15 @@ four-octets-spec =
     returns-4
     class-requires-2
     returns-5
-    cast-t17
-    mul-t19
-    cast-t20
-    add-t22
-    mul-t23
-    cast-t24
-    add-t26
-    mul-t27
-    cast-t28
-    add-t30
-    add-t9
+    cast-t18
+    mul-t20
+    cast-t21
+    add-t23
+    mul-t24
+    cast-t25
+    add-t27
+    mul-t28
+    cast-t29
+    add-t31
+    add-t10
     returns-6)

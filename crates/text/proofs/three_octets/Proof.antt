@@ -37,12 +37,12 @@ shared-slice-read-c c = search needs
 returns-2 : tie.Need-returns-2
 returns-2 c =
     let a = (c .before .before .before .before .before .before .args) in
-    ap (nextBy (a .at)) (sym (three-by (now (a .s)) (a .at) ((c .before .before .before .before .if1 .left)) false _ (too-low ((c .before .before .before .before .before .before .pre .1)) ((c .if2 .taken))) refl))
+    ap (nextBy (a .at)) (sym (three-by (now (a .s)) (a .at) ((c .before .before .before .before .if1 .left)) false _ (too-low ((c .before .before .before .before .before .before .pre .1 .1)) ((c .if2 .taken))) refl))
 
 returns-3 : tie.Need-returns-3
 returns-3 c =
     let a = (c .before .before .before .before .before .before .before .args) in
-    ap (nextBy (a .at)) (sym (three-by (now (a .s)) (a .at) ((c .before .before .before .before .before .if1 .left)) false _ (too-high ((c .before .before .before .before .before .before .before .pre .1)) ((c .if3 .taken))) refl))
+    ap (nextBy (a .at)) (sym (three-by (now (a .s)) (a .at) ((c .before .before .before .before .before .if1 .left)) false _ (too-high ((c .before .before .before .before .before .before .before .pre .1 .1)) ((c .if3 .taken))) refl))
 
 class-requires : tie.Need-class-requires
 class-requires c κs = search needs
@@ -50,36 +50,36 @@ class-requires c κs = search needs
 returns-4 : tie.Need-returns-4
 returns-4 c =
     let a = (c .before .before .before .before .before .before .before .before .before .args) in
-    ap (nextBy (a .at)) (sym (three-by (now (a .s)) (a .at) ((c .before .before .before .before .before .before .before .if1 .left)) true false (just-so ((c .before .before .before .before .before .before .before .before .before .pre .1)) ((c .before .before .before .if2 .left)) ((c .before .before .if3 .left))) (no-tail ((c .before .before .before .before .shared-slice-known4 .given) (a .at + 2) .fits) (λ e. (c .if4 .taken) ((c .before .class .ensures) ∙ e)))))
+    ap (nextBy (a .at)) (sym (three-by (now (a .s)) (a .at) ((c .before .before .before .before .before .before .before .if1 .left)) true false (just-so ((c .before .before .before .before .before .before .before .before .before .pre .1 .1)) ((c .before .before .before .if2 .left)) ((c .before .before .if3 .left))) (no-tail ((c .before .before .before .before .shared-slice-known4 .given) (a .at + 2) .fits) (λ e. (c .if4 .taken) ((c .before .class .ensures) ∙ e)))))
 
-cast-t15 : tie.Need-cast-t15
-cast-t15 c = omega (arith, (c .before .before .before .before .before .before .shared-slice-known2 .given) ((c .before .before .before .before .before .before .before .before .before .args .at)))
+cast-t16 : tie.Need-cast-t16
+cast-t16 c = omega (arith, (c .before .before .before .before .before .before .shared-slice-known2 .given) ((c .before .before .before .before .before .before .before .before .before .args .at)))
 
-mul-t17 : tie.Need-mul-t17
-mul-t17 c = search needs
+mul-t18 : tie.Need-mul-t18
+mul-t18 c = search needs
 
-cast-t18 : tie.Need-cast-t18
-cast-t18 c = omega (arith, (c .before .before .before .before .before .shared-slice-known3 .given) ((c .before .before .before .before .before .before .before .before .before .args .at) + 1))
+cast-t19 : tie.Need-cast-t19
+cast-t19 c = omega (arith, (c .before .before .before .before .before .shared-slice-known3 .given) ((c .before .before .before .before .before .before .before .before .before .args .at) + 1))
 
-add-t20 : tie.Need-add-t20
-add-t20 c = search needs
+add-t21 : tie.Need-add-t21
+add-t21 c = search needs
 
-mul-t21 : tie.Need-mul-t21
-mul-t21 c = search needs
+mul-t22 : tie.Need-mul-t22
+mul-t22 c = search needs
 
-cast-t22 : tie.Need-cast-t22
-cast-t22 c = omega (arith, (c .before .before .before .before .shared-slice-known4 .given) ((c .before .before .before .before .before .before .before .before .before .args .at) + 2))
+cast-t23 : tie.Need-cast-t23
+cast-t23 c = omega (arith, (c .before .before .before .before .shared-slice-known4 .given) ((c .before .before .before .before .before .before .before .before .before .args .at) + 2))
 
-add-t24 : tie.Need-add-t24
-add-t24 c = search needs
+add-t25 : tie.Need-add-t25
+add-t25 c = search needs
 
-add-t9 : tie.Need-add-t9
-add-t9 c = search needs
+add-t10 : tie.Need-add-t10
+add-t10 c = search needs
 
 returns-5 : tie.Need-returns-5
 returns-5 c =
     let a = (c .before .before .before .before .before .before .before .before .before .args) in
-    ap (nextBy (a .at)) (sym (three-by (now (a .s)) (a .at) ((c .before .before .before .before .before .before .before .if1 .left)) true true (just-so ((c .before .before .before .before .before .before .before .before .before .pre .1)) ((c .before .before .before .if2 .left)) ((c .before .before .if3 .left))) (is-tail ((c .before .before .before .before .shared-slice-known4 .given) (a .at + 2) .fits) (sym ((c .before .class .ensures)) ∙ (c .if4 .left)))))
+    ap (nextBy (a .at)) (sym (three-by (now (a .s)) (a .at) ((c .before .before .before .before .before .before .before .if1 .left)) true true (just-so ((c .before .before .before .before .before .before .before .before .before .pre .1 .1)) ((c .before .before .before .if2 .left)) ((c .before .before .if3 .left))) (is-tail ((c .before .before .before .before .shared-slice-known4 .given) (a .at + 2) .fits) (sym ((c .before .class .ensures)) ∙ (c .if4 .left)))))
 
 pub three-octets-spec : {M : Type 1} → statement M
 three-octets-spec =
@@ -96,12 +96,12 @@ three-octets-spec =
     returns-3
     class-requires
     returns-4
-    cast-t15
-    mul-t17
-    cast-t18
-    add-t20
-    mul-t21
-    cast-t22
-    add-t24
-    add-t9
+    cast-t16
+    mul-t18
+    cast-t19
+    add-t21
+    mul-t22
+    cast-t23
+    add-t25
+    add-t10
     returns-5)

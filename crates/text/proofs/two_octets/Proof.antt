@@ -36,20 +36,20 @@ returns-2 c =
     let a = (c .before .before .before .before .before .before .args) in
     ap (nextBy (a .at)) (sym (two-by (now (a .s)) (a .at) ((c .before .before .before .before .if1 .left)) false (no-tail ((c .before .before .shared-slice-known3 .given) (a .at + 1) .fits) (λ e. (c .if2 .taken) ((c .before .class .ensures) ∙ e)))))
 
-cast-t11 : tie.Need-cast-t11
-cast-t11 c = omega (arith, (c .before .before .before .shared-slice-known2 .given) ((c .before .before .before .before .before .before .args .at)))
+cast-t12 : tie.Need-cast-t12
+cast-t12 c = omega (arith, (c .before .before .before .shared-slice-known2 .given) ((c .before .before .before .before .before .before .args .at)))
 
-mul-t13 : tie.Need-mul-t13
-mul-t13 c = search needs
+mul-t14 : tie.Need-mul-t14
+mul-t14 c = search needs
 
-cast-t14 : tie.Need-cast-t14
-cast-t14 c = omega (arith, (c .before .before .shared-slice-known3 .given) ((c .before .before .before .before .before .before .args .at) + 1))
+cast-t15 : tie.Need-cast-t15
+cast-t15 c = omega (arith, (c .before .before .shared-slice-known3 .given) ((c .before .before .before .before .before .before .args .at) + 1))
 
-add-t16 : tie.Need-add-t16
-add-t16 c = search needs
+add-t17 : tie.Need-add-t17
+add-t17 c = search needs
 
-add-t5 : tie.Need-add-t5
-add-t5 c = search needs
+add-t6 : tie.Need-add-t6
+add-t6 c = search needs
 
 returns-3 : tie.Need-returns-3
 returns-3 c =
@@ -67,9 +67,9 @@ two-octets-spec =
     shared-slice-read-b
     class-requires
     returns-2
-    cast-t11
-    mul-t13
-    cast-t14
-    add-t16
-    add-t5
+    cast-t12
+    mul-t14
+    cast-t15
+    add-t17
+    add-t6
     returns-3)
