@@ -1,0 +1,4 @@
+pub mod Octets
+pub mod Chars
+pub mod Prefix
+pub mod White
