@@ -1,0 +1,3 @@
+-- What the functions below `reading_holds` promise.
+pub mod Placed
+pub mod Mark
