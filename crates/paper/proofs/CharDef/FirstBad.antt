@@ -25,7 +25,7 @@ use Rattle.paper.specs.Computed.Decode.{Text, broken, chars, decode}
 use Rattle.paper.specs.Computed.ReadText.{lineOf, body, bodyLine, Step, go-on, stop, enter, verdict, afterLine, readLines, nothingRead, readChars, readText}
 use Rattle.paper.proofs.Lists.Facts.{T→true, T→false, all-append, cut-run, pushAll-first}
 use Rattle.paper.proofs.CharDef.Sound.{false→T, zero-one, all-left, all-right, cut-pieces}
-use Rattle.paper.proofs.Text.Code.{decode-complete, decode-sound}
+use Rattle.paper.proofs.Text.Code.{decode-complete, decode-sound, utf8-one}
 use Rattle.paper.proofs.Text.Bytes.{utf8-append, cut-utf8}
 use Rattle.paper.proofs.CharDef.Whole.{map-append, cut-joined, pieces-joined, refused-accepted}
 use Rattle.paper.proofs.CharDef.Accepts.{fits-accepted, accepted-fits, fits-one}
@@ -175,13 +175,6 @@ LF-ascii b t = not-T (isLF b) (λ e. high (leb-yes t) (T→true _ e))
   where
     high : 0x80 ≤ b → isLF b ≡ true → ⊥
     high h e = let i : b ≡ lf = eqb-true b lf e in omega arith
-
--- two texts of characters with the same bytes are the same
-pub utf8-one : (s t : List ℕ) → T (all isScalar s) → T (all isScalar t) → utf8 s ≡ utf8 t → s ≡ t
-unfolding decode
-utf8-one s t a b e =
-    let d : chars s ≡ chars t = sym (decode-complete s 0 a) ∙ ap decode e ∙ decode-complete t 0 b in
-    cc
 
 lines-scalar : (css : List (List ℕ)) → T (all isScalar (joinLF css)) → T (all (λ l. all isScalar l) css)
 lines-scalar [] a = tt

@@ -39,6 +39,10 @@ pub well-formed : (s : List ℕ) → WellFormed s ↔ ((cs : List ℕ) × (s ≡
 well-formed s =
     (λ w. let (cs, e) = reads s .0 w in let (i, a) = decodes s cs .0 e in (cs, i, a), λ (cs, i, a). reads s .1 (cs, decodes s cs .1 (i, a)))
 
+-- what the decoder breaks off at is not well-formed
+pub ill-read : (s : List ℕ) (p : ℕ) → decode s ≡ broken p → WellFormed s → ⊥
+ill-read s p e w = let (cs, i) = reads s .0 w in broken-chars (sym e ∙ i)
+
 -- no two texts of scalar values have the same bytes
 pub utf8-one : (cs ds : List ℕ) → T (all isScalar cs) → T (all isScalar ds) → utf8 cs ≡ utf8 ds → cs ≡ ds
 utf8-one cs ds a b e =

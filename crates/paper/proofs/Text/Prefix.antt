@@ -149,5 +149,8 @@ longest-prefix s p =
     never : (k : ℕ) → p < k → k ≤ p → ⊥
     never k h i = omega arith
 
+pub prefix-of : (s : List ℕ) (p : ℕ) → decode s ≡ broken p → LongestPrefix p s
+prefix-of s p e = decoded-prefix s (broken p) e
+
 pub longest-one : (s : List ℕ) (p q : ℕ) → LongestPrefix p s → LongestPrefix q s → p ≡ q
 longest-one s p q a b = longest-prefix s p .0 a ∙ sym (longest-prefix s q .0 b)
