@@ -23,7 +23,8 @@ use Rattle.paper.specs.Computed.Numeral.{numeral, signedNumeral}
 use Rattle.paper.specs.Computed.ReadText.{boundIs, noBound, strip0x, checkedBound, boundOf}
 use Rattle.paper.proofs.Lists.Facts.{T→false, full-all}
 use Rattle.paper.proofs.Numbers.Laws as laws
-use Rattle.paper.proofs.CharDef.Sound.{zero-one, numeral-sound}
+use Rattle.paper.proofs.Apart.{zero-one, none-some}
+use Rattle.paper.proofs.CharDef.Sound.{numeral-sound}
 use Rattle.paper.proofs.CharDef.Complete.{digit-apart, numeral-chars, numeral-read}
 use Rattle.numeral.specs.declared.Number.{Number}
 use Rattle.numeral.specs.declared.Number.the-variants as number
@@ -34,9 +35,6 @@ use Rattle.numeral.specs.declared.Bound.the-variants as bound
 use Rattle.numeral.specs.Said.{saidNumber, saidSigned, saidBound}
 use Rattle.numeral.specs.Fits.{NumberFits, SignedFits, HexCode, Marked, CodeFits, unreadable, mark, BoundFits}
 use Rattle.numeral.proofs.Bounds.{strip-off₂}
-
-none-some {ℓ} : {X : Type ℓ} {A : Type 0} {x : A} → none ≡ some x → X
-none-some e = zero-one (cc)
 
 -- ---- an answer is what it says
 

@@ -6,7 +6,7 @@ use native.Mathlib.Omega.{arith}
 use mathlib.Core.Path.{_≡_, refl, sym, ap, _∙_, subst}
 use mathlib.Core.Logic.{_↔_}
 use mathlib.Core.Bool.{Bool, true, false, cond}
-use mathlib.Core.List.{List, []}
+use mathlib.Core.List.{List}
 use lib.Dec.{ltb}
 use lib.ListN.{length}
 use borrow.Author.Tests.{ltb-true, ltb-false, lt-ltb, le-ltb}
@@ -18,7 +18,7 @@ use Rattle.paper.specs.CharDef.Bad.{FirstBad, BadText, too-long, ill-for
 use Rattle.paper.specs.CharDef.Reading.{isLF, Answer, accepted, refused}
 use Rattle.paper.specs.Computed.Decode.{bad, Text, broken, chars, decode}
 use Rattle.paper.specs.Computed.ReadText.{readLines, nothingRead, readChars, readText}
-use Rattle.paper.proofs.CharDef.Sound.{zero-one}
+use Rattle.paper.proofs.Apart.{zero-one}
 use Rattle.paper.proofs.Text.Code.{reads, well-formed, ill-read}
 use Rattle.paper.proofs.Text.Prefix.{prefix-of, longest-one}
 use Rattle.paper.proofs.CharDef.Accepts.{accepted-fits, fits-accepted}

@@ -19,16 +19,14 @@ use Rattle.paper.specs.CharDef.Reading.{Reading, readingOf, Within, Each
 use Rattle.paper.specs.CharDef.BadLine.{Body, Fields, last-field, more-fields, RangeFields, CategoryFields, Parts, one-part, two-parts, NoU32, neededFields, Misfit, many-parts, lower-bad, upper-bad, not-four, no-number, BadBound, no-hex, mark, swapped, NoRoom, too-many, too-long, PastLimit, range-over, references-over, range-name, line-over, category-name, BadLine, misfit, past-limit}
 use Rattle.paper.specs.Computed.Numeral.{numeral}
 use Rattle.paper.specs.Computed.ReadText.{Found, found, wrong, BoundFound, parts, fromBounds, fromParts, rangeOf, fromNumbers, categoryOf, body, bodyLine, lineOf, Step, go-on, stop, enter, enterFound, verdict, readLines}
+use Rattle.paper.proofs.Apart.{zero-one, none-some, wrong-found, refused-accepted}
 use Rattle.paper.proofs.Lists.Facts.{T→true, T→false, true→T}
-use Rattle.paper.proofs.CharDef.Sound.{false→T, zero-one, numeral-sound, line-sound}
+use Rattle.paper.proofs.CharDef.Sound.{false→T, numeral-sound, line-sound}
 use Rattle.paper.proofs.CharDef.Complete.{numeral-read, line-complete}
-use Rattle.paper.proofs.CharDef.Whole.{lines-sound, lines-complete, refused-accepted}
+use Rattle.paper.proofs.CharDef.Whole.{lines-sound, lines-complete}
 use Rattle.paper.proofs.CharDef.Bodies.{sep-white, has-body, body-is, fields-words, has-fields}
-use Rattle.paper.proofs.CharDef.Bounds.{Cuts, uncut, cut-at, parts-cuts, none-some, many-wrong, parts-bounds, Judged, good, bad, judged, bad-read, good-read}
+use Rattle.paper.proofs.CharDef.Bounds.{Cuts, uncut, cut-at, parts-cuts, many-wrong, parts-bounds, Judged, good, bad, judged, bad-read, good-read}
 use Rattle.paper.proofs.CharDef.Limits.{enter-past, past-enter}
-
-found-wrong {ℓ} : {X : Type ℓ} {l : Line} {n : ℕ} → found l ≡ wrong n → X
-found-wrong e = zero-one (cc)
 
 -- ---- range lines
 
@@ -37,7 +35,7 @@ module _ {cs bounds : List ℕ} {names : List (List ℕ)} (fs : RangeFields cs b
       → fromBounds x y names ≡ wrong n → Misfit cs n
   bounds-misfit lower upper p (bad {n = m} b) j n h = let e : m ≡ n = cc in subst (Misfit cs) e (lower-bad fs p b)
   bounds-misfit lower upper p (good g) (bad {n = m} b) n h = let e : m ≡ n = cc in subst (Misfit cs) e (upper-bad fs p g b)
-  bounds-misfit lower upper p (good g) (good i) n h = found-wrong h
+  bounds-misfit lower upper p (good g) (good i) n h = wrong-found (sym h)
 
   many : (a b c : List ℕ) → bounds ≡ a ++ (dot ∷ dot ∷ (b ++ (dot ∷ dot ∷ c))) → (n : ℕ) → wrong rangeParts ≡ wrong n → Misfit cs n
   many a b c e n h =
@@ -84,7 +82,7 @@ category-misfit {cs} (a ∷ b ∷ c ∷ d ∷ []) fs n h =
     go none y z ex ey ez h = number (inl (no-u32 b ex)) h
     go (some i) none z ex ey ez h = number (inr (inl (no-u32 c ey))) h
     go (some i) (some g) none ex ey ez h = number (inr (inr (no-u32 d ez))) h
-    go (some i) (some g) (some l) ex ey ez h = found-wrong h
+    go (some i) (some g) (some l) ex ey ez h = wrong-found (sym h)
 category-misfit {cs} (a ∷ b ∷ c ∷ d ∷ e ∷ r) fs n h = count (a ∷ b ∷ c ∷ d ∷ e ∷ r) fs (omega arith) n h
 
 -- ---- a line that fits nothing
@@ -94,7 +92,7 @@ unfolding lineOf bodyLine
 line-wrong cs n h = let (core, b) = has-body cs in go core b (ap bodyLine (sym (body-is cs core b)) ∙ h)
   where
     go : (core : List ℕ) → Body cs core → bodyLine core ≡ wrong n → Misfit cs n
-    go [] b h = found-wrong h
+    go [] b h = wrong-found (sym h)
     go (c ∷ core) b h = kind (begins0x (c ∷ core)) refl h
       where
         kind : (z : Bool) → begins0x (c ∷ core) ≡ z → cond z (rangeOf (words isWhite (c ∷ core))) (categoryOf (words isSep (c ∷ core))) ≡ wrong n → Misfit cs n

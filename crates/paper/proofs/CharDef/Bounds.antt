@@ -18,14 +18,12 @@ use Rattle.paper.specs.CharDef.Line.{zeroXs, standsFor, Bound}
 use Rattle.paper.specs.CharDef.BadLine.{NoDots, Parts, one-part, two-parts, ThreeParts, Hex16, BadBound, no-hex, mark, swapped}
 use Rattle.paper.specs.Computed.Numeral.{numeral}
 use Rattle.paper.specs.Computed.ReadText.{wrong, BoundFound, boundIs, noBound, strip0x, parts, checkedBound, boundOf, fromBounds, fromParts}
+use Rattle.paper.proofs.Apart.{none-some, nil-cons}
 use Rattle.paper.proofs.Lists.Facts.{T→false, true→T, full-all}
-use Rattle.paper.proofs.CharDef.Sound.{zero-one, numeral-sound}
+use Rattle.paper.proofs.CharDef.Sound.{numeral-sound}
 use Rattle.paper.proofs.CharDef.Complete.{digit-apart, numeral-chars, numeral-read}
 
 -- ---- parts
-
-nil-cons {ℓ} : {X : Type ℓ} {c : ℕ} {s : List ℕ} → [] ≡ c ∷ s → X
-nil-cons e = zero-one (cc)
 
 no-dots-nil : NoDots []
 no-dots-nil [] b e = nil-cons e
@@ -177,9 +175,6 @@ pub hex-found : (part : List ℕ) (code : ℕ) → numeral 16 maxU16 (strip0x pa
 hex-found part code h =
     let (k, e) = strip-front part in
     record { times = k; numeral = strip0x part; whole = e; number = numeral-sound 16 maxU16 (strip0x part) code h }
-
-pub none-some {ℓ} : {X : Type ℓ} {n : ℕ} → none ≡ some n → X
-none-some e = zero-one (cc)
 
 -- a bound, or what is wrong with it
 pub data Judged (part : List ℕ) : BoundFound → Type 0 where

@@ -5,7 +5,7 @@ use native.Mathlib.Nat.{lt-of-lt-of-le}
 use native.Mathlib.Omega.{arith}
 use mathlib.Core.Path.{_≡_, refl, sym, ap, _∙_, subst}
 use mathlib.Core.Bool.{Bool, true, false, not, cond, _&&_, _||_}
-use mathlib.Core.Option.{none, some}
+use mathlib.Core.Option.{some}
 use mathlib.Core.List.{List, [], _∷_, _++_, append-assoc, append-nil}
 use lib.Dec.{T, leb, ltb, eqb, eqb→eq, lit≤}
 use mir.Facts.{and-yes, yes-and, T-not, not-T, leb-yes, ltb-yes, yes-ltb, yes-leb}
@@ -18,7 +18,6 @@ use Rattle.paper.specs.Computed.Numeral.{dropPlus, numeral}
 use Rattle.paper.specs.Computed.ReadText.{found, BoundFound, strip0x, parts, boundOf, fromParts, rangeOf, categoryOf, body, bodyLine, lineOf}
 use Rattle.paper.proofs.Lists.Facts.{T→true, T→false, apart, from-below, all-append, full-all, all-imp, full-imp, un, until-append, trimStart-append, trimEnd-append, words-word, words-run}
 use Rattle.paper.specs.CharDef.Line as line
-use Rattle.paper.specs.Computed.ReadText as read
 
 -- ---- characters
 

@@ -16,16 +16,11 @@ use Rattle.paper.specs.Text.Scalar.{utf8}
 use Rattle.paper.specs.CharDef.Line.{Line, blank, category, range}
 use Rattle.paper.specs.CharDef.Reading.{Definition, Reading, namesOf, nameBytes, references}
 use Rattle.paper.specs.CharDef.BadLine.{NoRoom, too-many, too-long, knownWith, FirstOver, PastLimit, range-over, references-over, range-name, line-over, category-name}
-use Rattle.paper.specs.Computed.ReadText.{go-on, stop, Interned, names-are, full-at, internOne, afterOne, intern, addRange, addDefinition, enter}
+use Rattle.paper.specs.Computed.ReadText.{stop, Interned, names-are, full-at, internOne, afterOne, intern, addRange, addDefinition, enter}
+use Rattle.paper.proofs.Apart.{zero-one, full-names, stop-go}
 use Rattle.paper.proofs.Lists.Facts.{T→true, T→false, true→T}
 use Rattle.paper.proofs.Lists.Seen.{same-eq}
-use Rattle.paper.proofs.CharDef.Sound.{false→T, zero-one}
-
-names-full {ℓ} : {X : Type ℓ} {m : List (List ℕ)} {n : ℕ} → names-are m ≡ full-at n → X
-names-full e = zero-one (cc)
-
-go-stop {ℓ} : {X : Type ℓ} {r : Reading} {n : ℕ} → go-on r ≡ stop n → X
-go-stop e = zero-one (cc)
+use Rattle.paper.proofs.CharDef.Sound.{false→T}
 
 nil-middle {ℓ} : {X : Type ℓ} (a : List (List ℕ)) (x : List ℕ) (b : List (List ℕ)) → [] ≡ a ++ (x ∷ b) → X
 nil-middle [] x b e = zero-one (cc)
@@ -154,7 +149,7 @@ over-later x known ns n free f =
 
 intern-over : (ns known : List (List ℕ)) (n : ℕ) → intern ns known ≡ full-at n → FirstOver known ns n
 unfolding intern
-intern-over [] known n h = names-full h
+intern-over [] known n h = full-names (sym h)
 intern-over (x ∷ ns) known n h = go (one known x) h (λ m. intern-over ns m n)
   where
     go : {o : Interned} → One known x o → afterOne o (λ m. intern ns m) ≡ full-at n
@@ -185,7 +180,7 @@ first-over-stops {known} {ns} {n} f = rw (f .whole) (intern-stops (f .earlier) (
 
 pub enter-past : (r : Reading) (l : Line) (n : ℕ) → enter r l ≡ stop n → PastLimit r l n
 unfolding enter namesOf
-enter-past r blank n h = go-stop h
+enter-past r blank n h = stop-go (sym h)
 enter-past r (category name invoke group len) n h = go (leb maxCategoryLines (length (r .definitions))) refl (intern (utf8 name ∷ []) (r .names)) refl h
   where
     d : Definition
@@ -201,7 +196,7 @@ enter-past r (category name invoke group len) n h = go (leb maxCategoryLines (le
         let j : m ≡ n = cc in
         let k : length (r .definitions) < maxCategoryLines = leb-no (false→T _ e) in
         subst (PastLimit r (category name invoke group len)) j (category-name (omega arith) (intern-over (utf8 name ∷ []) (r .names) m i))
-    go false e (names-are m) i h = go-stop h
+    go false e (names-are m) i h = stop-go (sym h)
 enter-past r (range lower upper names) n h =
     go (leb maxRanges (length (r .ranges))) refl (ltb maxReferences (references (r .ranges) + length names)) refl (intern (map utf8 names) (r .names)) refl h
   where
@@ -223,7 +218,7 @@ enter-past r (range lower upper names) n h =
         let j : m ≡ n = cc in
         let k : length (r .ranges) < maxRanges = leb-no (false→T _ ea) in
         subst Goal j (range-name (omega arith) (ltb-no (false→T _ eb)) (intern-over (map utf8 names) (r .names) m i))
-    go false ea false eb (names-are m) i h = go-stop h
+    go false ea false eb (names-are m) i h = stop-go (sym h)
 
 pub past-enter : {r : Reading} {l : Line} {n : ℕ} → PastLimit r l n → enter r l ≡ stop n
 unfolding enter namesOf

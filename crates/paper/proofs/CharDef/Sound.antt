@@ -1,7 +1,6 @@
 -- What is read as a line is said by its characters.
 -- Assumes nothing.
 use Prim.Native.Nat.{ℕ, suc, _≤_, zero-le, suc-le-suc}
-use native.Mathlib.Omega.{arith}
 use mathlib.Core.Path.{_≡_, refl, sym, ap, _∙_, subst}
 use mathlib.Core.Logic.{_⊎_, inl, inr}
 use mathlib.Core.Bool.{Bool, true, false, not, cond, _&&_, _||_}
@@ -15,7 +14,8 @@ use Rattle.paper.specs.Text.Scalar.{isWhite, isSep}
 use Rattle.paper.specs.Numbers.Numeral.{isDigit, valueAfter, Numeral}
 use Rattle.paper.specs.CharDef.Line.{Line, blank, category, range, isHash, isNameChar, isFieldChar, comment, begins0x, beginsWhite, zeroXs, standsFor, Bound, Bounds, one, two, Names, LineFits}
 use Rattle.paper.specs.Computed.Numeral.{spelledBy, numeral}
-use Rattle.paper.specs.Computed.ReadText.{found, wrong, BoundFound, noBound, strip0x, parts, checkedBound, boundOf, fromBounds, fromParts, rangeOf, fromNumbers, categoryOf, body, bodyLine, lineOf}
+use Rattle.paper.specs.Computed.ReadText.{found, BoundFound, noBound, strip0x, parts, checkedBound, boundOf, fromBounds, fromParts, rangeOf, fromNumbers, categoryOf, body, bodyLine, lineOf}
+use Rattle.paper.proofs.Apart.{none-some, wrong-found, none-bound}
 use Rattle.paper.proofs.Lists.Facts.{true→T, apart, all-append, all-imp, un}
 use Rattle.paper.specs.CharDef.Line as line
 
@@ -92,18 +92,6 @@ module _ (p : ℕ → Bool) where
 
 -- ---- numerals
 
-pub zero-one {ℓ} : {X : Type ℓ} → _≡_ {A = ℕ} 0 1 → X
-zero-one e = absurd (omega arith)
-
-none-some {ℓ} : {X : Type ℓ} {n : ℕ} → none ≡ some n → X
-none-some e = zero-one (cc)
-
-wrong-found {ℓ} : {X : Type ℓ} {n : ℕ} {l : Line} → wrong n ≡ found l → X
-wrong-found e = zero-one (cc)
-
-noEdge-edge {ℓ} : {X : Type ℓ} {n v : ℕ} → noBound n ≡ BoundFound.boundIs v → X
-noEdge-edge e = zero-one (cc)
-
 module _ (base limit : ℕ) where
   pub spelled-sound : (ds : List ℕ) (n : ℕ) → spelledBy base limit ds ≡ some n
       → T (full (isDigit base) ds) × (n ≡ valueAfter base 0 ds) × (n ≤ limit)
@@ -160,8 +148,8 @@ bound-sound least cs v h m = go (numeral 16 0xFFFF (strip0x cs)) refl h
 
     some-case : (c : ℕ) → numeral 16 0xFFFF (strip0x cs) ≡ some c → (x y : Bool) → eqb c 0xFEFF ≡ x → eqb c 0xFFFE ≡ y
         → cond (x || y) (noBound 6) (BoundFound.boundIs (standsFor c)) ≡ BoundFound.boundIs v → Bound least cs v
-    some-case c n true y ex ey h = noEdge-edge h
-    some-case c n false true ex ey h = noEdge-edge h
+    some-case c n true y ex ey h = none-bound h
+    some-case c n false true ex ey h = none-bound h
     some-case c n false false ex ey h =
         record {
           times = s .0;
@@ -176,7 +164,7 @@ bound-sound least cs v h m = go (numeral 16 0xFFFF (strip0x cs)) refl h
         }
 
     go : (o : Option ℕ) → numeral 16 0xFFFF (strip0x cs) ≡ o → checkedBound o ≡ BoundFound.boundIs v → Bound least cs v
-    go none n h = noEdge-edge h
+    go none n h = none-bound h
     go (some c) n h = some-case c n (eqb c 0xFEFF) (eqb c 0xFFFE) refl refl h
 
 data Dotted : List ℕ → List (List ℕ) → Type 0 where

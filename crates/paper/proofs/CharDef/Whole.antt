@@ -12,12 +12,13 @@ use mir.Facts.{and-yes, yes-and, leb-no, ltb-no, no-ltb, no-leb}
 use Rattle.paper.specs.Lists.{empty, all, any, joined, firstSeen, positionOf, same, sum, cut}
 use Rattle.paper.specs.Text.Scalar.{utf8}
 use Rattle.paper.specs.CharDef.Line.{Line, blank, category, range}
-use Rattle.paper.specs.CharDef.Reading.{Definition, Range, Reading, namesOf, definitionsOf, rangesOf, readingOf, nameBytes, references, Within, joinLF, noLF, EachFits, done, next, isLF, accepted, refused}
+use Rattle.paper.specs.CharDef.Reading.{Definition, Range, Reading, namesOf, definitionsOf, rangesOf, readingOf, nameBytes, references, Within, joinLF, noLF, EachFits, done, next, isLF, accepted}
 use Rattle.paper.specs.Computed.ReadText.{Found, found, wrong, lineOf, Step, go-on, stop, Interned, names-are, full-at, internOne, afterOne, intern, addRange, addDefinition, enter, enterFound, afterLine, readLines}
+use Rattle.paper.proofs.Apart.{full-names, stop-go, refused-accepted}
 use Rattle.paper.proofs.Lists.Facts.{T→false, cut-run, pushAll-first}
 use Rattle.paper.proofs.Lists.Seen.{same-eq, same-refl, seen-snoc, seen-append, seen-has, position-stays}
 use Rattle.paper.proofs.CharDef.Complete.{line-complete}
-use Rattle.paper.proofs.CharDef.Sound.{line-sound, Pieces, last, then, all-left, all-right, false→T, zero-one}
+use Rattle.paper.proofs.CharDef.Sound.{line-sound, Pieces, last, then, all-left, all-right, false→T}
 
 -- ---- lists
 
@@ -48,9 +49,6 @@ unfolding references
 references-append s t = ap sum (map-append (λ r. length (r .categories)) s t) ∙ sum-append (map (λ r. length (r .categories)) s) (map (λ r. length (r .categories)) t)
 
 -- ---- names
-
-full-names {ℓ} : {X : Type ℓ} {n : ℕ} {m : List (List ℕ)} → full-at n ≡ names-are m → X
-full-names e = zero-one (cc)
 
 abbrev seen : List (List ℕ) → List (List ℕ)
 seen xs = firstSeen same xs
@@ -206,9 +204,6 @@ within-prefix ls ms w =
 
 -- ---- one more line
 
-stop-go {ℓ} : {X : Type ℓ} {n : ℕ} {r : Reading} → stop n ≡ go-on r → X
-stop-go e = zero-one (cc)
-
 reading-snoc : (ls : List Line) (l : Line)
     → readingOf (ls ++ (l ∷ [])) ≡ mk (seen (N ls ++ namesOf l)) (D ls ++ definitionsOf l) (R (seen (N ls)) ls ++ rangesOf (seen (N ls ++ namesOf l)) l)
 reading-snoc ls l = reading-append ls (l ∷ []) ∙ rw (append-nil (namesOf l), append-nil (definitionsOf l), append-nil (rangesOf (seen (N ls ++ namesOf l)) l))
@@ -329,9 +324,6 @@ enter-complete ls (range lower upper names) w =
     (ap go-on (sym (reading-snoc ls (range lower upper names) ∙ rw (append-nil (D ls)))))
 
 -- ---- all lines
-
-pub refused-accepted {ℓ} : {X : Type ℓ} {n k : ℕ} {r : Reading} → refused n k ≡ accepted r → X
-refused-accepted e = zero-one (cc)
 
 pub lines-sound : (css : List (List ℕ)) (k : ℕ) (ls : List Line) (r : Reading) → Within (readingOf ls) → readLines k css (readingOf ls) ≡ accepted r
     → (ms : List Line) × EachFits css ms × (r ≡ readingOf (ls ++ ms)) × Within r

@@ -14,8 +14,9 @@ use Rattle.paper.specs.Lists.{all}
 use Rattle.paper.specs.Numbers.Bytes.{isByte}
 use Rattle.paper.specs.Pack.Fields.{byteWidth, Field, field, bits, fieldBits, spell, bytesOf, byte, inBytes}
 use Rattle.paper.specs.Computed.ReadPack.{unpackBits, Taken, short, taken, takeNumber, consTaken, afterByte, takeBytes, isPadding}
+use Rattle.paper.proofs.Apart.{short-taken}
 use Rattle.paper.proofs.Lists.Facts.{all-append}
-use Rattle.paper.proofs.CharDef.Sound.{zero-one, all-left, all-right}
+use Rattle.paper.proofs.CharDef.Sound.{all-left, all-right}
 
 abbrev pub isBit : ℕ → Bool
 isBit b = ltb b 2
@@ -54,9 +55,6 @@ take-bits (suc w) n s =
 
 pub number-taken : (w n : ℕ) (s : List ℕ) → n < 2 ^ w → takeNumber w 0 (bits w n ++ s) ≡ taken n s
 number-taken w n s h = ap (λ v. takeNumber w v (bits w n ++ s)) (sym (div-eq-of-lt h)) ∙ take-bits w n s
-
-pub short-taken {ℓ} : {X : Type ℓ} {A : Type 0} {a : A} {s : List ℕ} → short ≡ taken a s → X
-short-taken e = zero-one (cc)
 
 low-half : (a b : ℕ) → b < 2 → (a * 2 + b) / 2 ≡ a
 low-half a b h = omega arith

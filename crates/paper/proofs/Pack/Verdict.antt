@@ -18,11 +18,11 @@ use Rattle.paper.specs.CharDef.Reading.{Reading, references, Answer, acc
 use Rattle.paper.specs.Pack.Fields.{version, versionWidth, categoriesWidth, linesWidth, rangesWidth, referencesWidth, nameLengthWidth, byteWidth, flagWidth, lengthWidth, boundWidth, countWidth, numberWidth, bits, packBits}
 use Rattle.paper.specs.Pack.Rules.{PackRules}
 use Rattle.paper.specs.Computed.ReadPack.{unpackBits, Taken, short, taken, takeNumber, consTaken, afterByte, takeBytes, Outcome, gave, broke, Reader, afterOutcome, _▹_, give, settle, fieldOr, number, bytesField, demand, isPadding, padding, many, lengthRule, nameRule, readName, readNames, readDefinition, readRange, readRanges, upTo, readBody, readCounted, readFields, readAll, answer, readPack}
+use Rattle.paper.proofs.Apart.{refused-accepted, short-taken, broke-gave}
 use Rattle.paper.proofs.Lists.Facts.{T→false}
-use Rattle.paper.proofs.CharDef.Sound.{zero-one, false→T, all-left}
-use Rattle.paper.proofs.CharDef.Whole.{refused-accepted}
-use Rattle.paper.proofs.Pack.Bits.{unpack-bits, number-taken, short-taken}
-use Rattle.paper.proofs.Pack.Trip.{broke-got, fields-read, fields-of, pack-is}
+use Rattle.paper.proofs.CharDef.Sound.{false→T, all-left}
+use Rattle.paper.proofs.Pack.Bits.{unpack-bits, number-taken}
+use Rattle.paper.proofs.Pack.Trip.{fields-read, fields-of, pack-is}
 
 -- ---- an orderly reader
 
@@ -33,9 +33,6 @@ pub record Orderly {A : Type 0} (S : ℕ → Bool) (p : Reader A) : Type 0 where
   pub breaks : (at : ℕ) (s : List ℕ) (n m : ℕ) → p at s ≡ broke n m → T (S n) × (at ≤ m) × (m ≤ at + length s)
   pub goes : (at : ℕ) (s : List ℕ) (a : A) (to : ℕ) (t : List ℕ) → p at s ≡ gave a to t → (u : List ℕ) → p at (s ++ u) ≡ gave a to (t ++ u)
   pub stops : (at : ℕ) (s : List ℕ) (n m : ℕ) → p at s ≡ broke n m → n ≢ packEnds → (u : List ℕ) → p at (s ++ u) ≡ broke n m
-
-pub got-broke {ℓ} : {X : Type ℓ} {A : Type 0} {n at to : ℕ} {a : A} {t : List ℕ} → gave a to t ≡ broke n at → X
-got-broke e = zero-one (cc)
 
 pub broke-same : {A : Type 0} (i j n m : ℕ) → _≡_ {A = Outcome A} (broke i j) (broke n m) → (i ≡ n) × (j ≡ m)
 broke-same i j n m h = let e : i ≡ n = cc in let d : j ≡ m = cc in (e, d)
@@ -51,7 +48,7 @@ orderly-bind {A} {B} S p k o f =
     }
   where
     moves : (at : ℕ) (s : List ℕ) (b : B) (to : ℕ) (t : List ℕ) (g : Outcome A) → p at s ≡ g → afterOutcome g k ≡ gave b to t → (at ≤ to) × (to + length t ≡ at + length s)
-    moves at s b to t (broke n m) e h = broke-got h
+    moves at s b to t (broke n m) e h = broke-gave h
     moves at s b to t (gave a m v) e h =
         let (i, x) = o .moves at s a m v e in
         let (j, y) = f a .moves m v b to t h in
@@ -65,7 +62,7 @@ orderly-bind {A} {B} S p k o f =
         (t, omega arith, omega arith)
 
     goes : (at : ℕ) (s : List ℕ) (b : B) (to : ℕ) (t u : List ℕ) (g : Outcome A) → p at s ≡ g → afterOutcome g k ≡ gave b to t → afterOutcome (p at (s ++ u)) k ≡ gave b to (t ++ u)
-    goes at s b to t u (broke n m) e h = broke-got h
+    goes at s b to t u (broke n m) e h = broke-gave h
     goes at s b to t u (gave a m v) e h = ap (λ g. afterOutcome g k) (o .goes at s a m v e u) ∙ f a .goes m v b to t h u
 
     stops : (at : ℕ) (s : List ℕ) (n m : ℕ) → n ≢ packEnds → (u : List ℕ) (g : Outcome A) → p at s ≡ g → afterOutcome g k ≡ broke n m → afterOutcome (p at (s ++ u)) k ≡ broke n m
@@ -77,9 +74,9 @@ unfolding give
 orderly-give {A} S a =
     record {
       moves = moves;
-      breaks = λ at s n m h. got-broke h;
+      breaks = λ at s n m h. broke-gave (sym h);
       goes = λ at s b to t h u. let ea : a ≡ b = cc in let em : at ≡ to = cc in let et : s ≡ t = cc in cc;
-      stops = λ at s n m h d u. got-broke h;
+      stops = λ at s n m h d u. broke-gave (sym h);
     }
   where
     moves : (at : ℕ) (s : List ℕ) (b : A) (to : ℕ) (t : List ℕ) → gave a at s ≡ gave b to t → (at ≤ to) × (to + length t ≡ at + length s)
@@ -94,7 +91,7 @@ orderly-give {A} S a =
 pub settle-got : {A : Type 0} (n w at : ℕ) (ok : A → Bool) (o : Taken A) (a : A) (to : ℕ) (t : List ℕ) → settle n w at ok o ≡ gave a to t
     → (o ≡ taken a t) × (ok a ≡ true) × (at + w ≡ to)
 unfolding settle
-settle-got n w at ok short a to t h = broke-got h
+settle-got n w at ok short a to t h = broke-gave h
 settle-got n w at ok (taken x v) a to t h = go (ok x) refl h
   where
     go : (c : Bool) → ok x ≡ c → cond c (gave x (at + w) v) (broke n at) ≡ gave a to t → (taken x v ≡ taken a t) × (ok a ≡ true) × (at + w ≡ to)
@@ -103,7 +100,7 @@ settle-got n w at ok (taken x v) a to t h = go (ok x) refl h
         let et : v ≡ t = cc in
         let em : at + w ≡ to = cc in
         (ap₂ taken ea et, ap ok (sym ea) ∙ e, em)
-    go false e h = broke-got h
+    go false e h = broke-gave h
 
 -- too short, or the test fails
 pub settle-broke : {A : Type 0} (n w at : ℕ) (ok : A → Bool) (o : Taken A) (k m : ℕ) → settle n w at ok o ≡ broke k m
@@ -114,7 +111,7 @@ settle-broke {A} n w at ok (taken x v) k m h = go (ok x) refl h
   where
     go : (c : Bool) → ok x ≡ c → cond c (gave x (at + w) v) (broke n at) ≡ broke k m
         → (at ≡ m) × (((taken x v ≡ short) × (packEnds ≡ k)) ⊎ ((a : A) × (t : List ℕ) × (taken x v ≡ taken a t) × (ok a ≡ false) × (n ≡ k)))
-    go true e h = got-broke h
+    go true e h = broke-gave (sym h)
     go false e h = let ek : n ≡ k = cc in let em : at ≡ m = cc in (em, inr (x, v, refl, e, ek))
 
 module _ {A : Type 0} (S : ℕ → Bool) (n w : ℕ) (ok : A → Bool) (take : List ℕ → Taken A)
@@ -235,10 +232,10 @@ orderly-demand b =
         let et : s ≡ t = cc in
         let el : length s ≡ length t = ap length et in
         (omega arith, omega arith)
-    moves false at s a to t h = broke-got h
+    moves false at s a to t h = broke-gave h
 
     breaks : (b : Bool) (at : ℕ) (s : List ℕ) (n m : ℕ) → demand b at s ≡ broke n m → T (late n) × (at ≤ m) × (m ≤ at + length s)
-    breaks true at s n m h = got-broke h
+    breaks true at s n m h = broke-gave (sym h)
     breaks false at s n m h =
         let en : packRule ≡ n = cc in
         let em : at ≡ m = cc in
@@ -247,10 +244,10 @@ orderly-demand b =
     goes : (b : Bool) (at : ℕ) (s : List ℕ) (a : Unit {0}) (to : ℕ) (t : List ℕ) → demand b at s ≡ gave a to t → (u : List ℕ)
         → demand b at (s ++ u) ≡ gave a to (t ++ u)
     goes true at s a to t h u = let em : at ≡ to = cc in let et : s ≡ t = cc in cc
-    goes false at s a to t h u = broke-got h
+    goes false at s a to t h u = broke-gave h
 
     stops : (b : Bool) (at : ℕ) (s : List ℕ) (n m : ℕ) → demand b at s ≡ broke n m → (u : List ℕ) → demand b at (s ++ u) ≡ broke n m
-    stops true at s n m h u = got-broke h
+    stops true at s n m h u = broke-gave (sym h)
     stops false at s n m h u = h
 
 orderly-many : {A : Type 0} (n : ℕ) (p : Reader A) → Orderly late p → Orderly late (many n p)
@@ -332,7 +329,7 @@ unfolding padding
 padding-broke at s n m h = go (isPadding s) refl h
   where
     go : (b : Bool) → isPadding s ≡ b → _≡_ {A = Outcome (Unit {0})} (cond b (gave tt at []) (broke packLeftOver at)) (broke n m) → (isPadding s ≡ false) × (packLeftOver ≡ n) × (at ≡ m)
-    go true e h = got-broke h
+    go true e h = broke-gave (sym h)
     go false e h = let en : packLeftOver ≡ n = cc in let em : at ≡ m = cc in (e, en, em)
 
 -- a field is broken, or they all are read and what is left is no padding
@@ -345,7 +342,7 @@ unfolding readAll _▹_ give Stopped
 all-stopped s n at h = go (readFields 0 s) refl h
   where
     pad : (r : Reading) (m : ℕ) (t : List ℕ) → readFields 0 s ≡ gave r m t → (o : Outcome (Unit {0})) → padding m t ≡ o → afterOutcome o (λ end. give r) ≡ broke n at → Stopped s n at
-    pad r m t e (gave u to v) d h = got-broke h
+    pad r m t e (gave u to v) d h = broke-gave (sym h)
     pad r m t e (broke i j) d h =
         let (ei, ej) = broke-same i j n at h in
         let (c, en, em) = padding-broke m t i j d in

@@ -12,12 +12,10 @@ use borrow.Author.Tests.{eqb-true, ltb-false, le-ltb}
 use Rattle.paper.specs.Lists.{any, positionOf, distinct}
 use Rattle.paper.specs.CharDef.Reading.{Reading}
 use Rattle.paper.specs.Rows.Covering.{holds, covers, named}
+use Rattle.paper.proofs.Apart.{true-false}
 use Rattle.paper.proofs.Lists.Facts.{T→true, T→false}
 use Rattle.paper.proofs.Rows.Sizes.{fresh-distinct}
 use Rattle.paper.proofs.Rows.Covered.{exactly-covered, first-sight-order}
-
-true-false {ℓ} : {X : Type ℓ} → true ≡ false → X
-true-false e = absurd (subst T e tt)
 
 position-most : (x : ℕ) (l : List ℕ) → positionOf eqb x l ≤ length l
 position-most x [] = zero-le

@@ -12,9 +12,10 @@ use mir.Facts.{and-yes, T-not}
 use Rattle.paper.specs.Lists.{any, positionOf, same}
 use Rattle.paper.specs.Pack.Rules.{onceAfter}
 use Rattle.paper.specs.Rows.Numbers.{lowest}
+use Rattle.paper.proofs.Apart.{none-some}
 use Rattle.paper.proofs.Lists.Facts.{T→true, T→false, true→T}
 use Rattle.paper.proofs.Lists.Seen.{same-eq, same-refl}
-use Rattle.paper.proofs.CharDef.Sound.{false→T, zero-one}
+use Rattle.paper.proofs.CharDef.Sound.{false→T}
 
 -- where x is there, it stands at its position and nowhere before
 pub record First (x : List ℕ) (ns : List (List ℕ)) (k : ℕ) : Type 0 where
@@ -45,23 +46,20 @@ not-any x (n ∷ ns) e j h q = go (same x n) refl e j h q (not-any x ns)
     go false d e zero h q ih = T-not (same x n) (subst (λ m. T (same m n)) q (same-refl n)) (false→T _ d)
     go false d e (suc j) h q ih = ih e j (le-of-suc-le-suc h) q
 
-pub some-none {ℓ} : {X : Type ℓ} {k : ℕ} → some k ≡ none → X
-some-none e = zero-one (cc)
-
 pub lowest-first : (x : List ℕ) (ns : List (List ℕ)) (k : ℕ) → lowest x ns ≡ some k → First x ns k
 unfolding lowest
 lowest-first x ns k e = go (any (same x) ns) refl e
   where
     go : (b : Bool) → any (same x) ns ≡ b → cond b (some (positionOf same x ns)) none ≡ some k → First x ns k
     go true d e = let q : positionOf same x ns ≡ k = cc in subst (First x ns) q (position-first x ns (true→T _ d))
-    go false d e = some-none (sym e)
+    go false d e = none-some e
 
 pub lowest-absent : (x : List ℕ) (ns : List (List ℕ)) → lowest x ns ≡ none → (j : ℕ) → j < length ns → getD ns j [] ≡ x → ⊥
 unfolding lowest
 lowest-absent x ns e = go (any (same x) ns) refl e
   where
     go : (b : Bool) → any (same x) ns ≡ b → cond b (some (positionOf same x ns)) none ≡ none → (j : ℕ) → j < length ns → getD ns j [] ≡ x → ⊥
-    go true d e = some-none e
+    go true d e = none-some (sym e)
     go false d e = not-any x ns d
 
 -- where no name stands twice, a name's number is its place
@@ -96,4 +94,4 @@ once-lowest before (n ∷ ns) (suc k) t h = rw (apart-here (once-apart (n ∷ be
 
     more : (b : Bool) → cond b (some (positionOf same (getD ns k []) ns)) none ≡ some k → cond b (some (suc (positionOf same (getD ns k []) ns))) none ≡ some (suc k)
     more true e = let q : positionOf same (getD ns k []) ns ≡ k = cc in ap (λ m. some (suc m)) q
-    more false e = some-none (sym e)
+    more false e = none-some e

@@ -23,8 +23,8 @@ use Rattle.paper.specs.Tables.Layout.{NameSlot, Tables, pieces, nameSlot
 use Rattle.paper.specs.Computed.HandedIn.{nameSlotsStand, slotsStand, flagged, nameSlotsIn, namesIn, slotsIn, numbersIn, enough, decoded, holds, handedIn}
 use Rattle.paper.specs.Computed.Rules.{formed}
 use Rattle.paper.specs.declared.Counts.{Counts}
+use Rattle.paper.proofs.Apart.{zero-one}
 use Rattle.paper.proofs.Lists.Facts.{true→T}
-use Rattle.paper.proofs.CharDef.Sound.{zero-one}
 use Rattle.paper.proofs.Rows.Lowest.{once-lowest}
 use Rattle.paper.proofs.Tables.Laws.{pieces-length}
 use Rattle.paper.proofs.Tables.Trip.{Enough, says}

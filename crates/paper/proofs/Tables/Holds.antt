@@ -15,7 +15,7 @@ use Rattle.paper.specs.Tables.Layout.{Tables, layout, countsOf, used, be
 use Rattle.paper.specs.Tables.HandedIn.{HoldTogether}
 use Rattle.paper.specs.Computed.HandedIn.{decoded, holds, handedIn}
 use Rattle.paper.specs.declared.Counts.{Counts}
-use Rattle.paper.proofs.CharDef.Sound.{zero-one}
+use Rattle.paper.proofs.Apart.{zero-one}
 use Rattle.paper.proofs.Lists.Facts.{true→T}
 use Rattle.paper.proofs.Tables.Trip.{Bytes, tables-is, handed-in, handed-holds, handed-back}
 

@@ -13,8 +13,9 @@ use lib.Seq.{take-length}
 use Rattle.paper.specs.Lists.{all}
 use Rattle.paper.specs.Text.Scalar.{isScalar, utf8, WellFormed}
 use Rattle.paper.specs.Computed.Decode.{Text, broken, chars, decode}
+use Rattle.paper.proofs.Apart.{broken-chars}
 use Rattle.paper.proofs.Text.Prefix.{prefix-longest, broken-inside, chars-formed}
-pub use Rattle.paper.proofs.Text.Lengths.{bad-good, broken-chars, enc-1, enc-2, enc-3, enc-4, dec-1, dec-2, dec-3, dec-4}
+pub use Rattle.paper.proofs.Text.Lengths.{enc-1, enc-2, enc-3, enc-4, dec-1, dec-2, dec-3, dec-4}
 pub use Rattle.paper.proofs.Text.Undo.{decode-complete}
 pub use Rattle.paper.proofs.Text.Taken.{Undone, first-taken, decode-sound}
 

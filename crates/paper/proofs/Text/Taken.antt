@@ -14,9 +14,10 @@ use borrow.Author.Tests.{leb-true, leb-false}
 use Rattle.paper.specs.Lists.{all}
 use Rattle.paper.specs.Text.Scalar.{between, isScalar, utf8Of, utf8}
 use Rattle.paper.specs.Computed.Decode.{First, bad, good, lowest, highest, isTail, two, three, four, first, Text, broken, chars, consText, onward, decodeFrom}
+use Rattle.paper.proofs.Apart.{bad-good, broken-chars}
 use Rattle.paper.proofs.Lists.Facts.{true→T}
 use Rattle.paper.proofs.Text.Scalar.{scalar-low, scalar-high}
-use Rattle.paper.proofs.Text.Lengths.{bad-good, broken-chars, enc-1, enc-2, enc-3, enc-4, low-80, high-BF, low-E0, low-F0, high-ED, high-F4}
+use Rattle.paper.proofs.Text.Lengths.{enc-1, enc-2, enc-3, enc-4, low-80, high-BF, low-E0, low-F0, high-ED, high-F4}
 
 -- a byte by what it carries
 tail-is : (b : ℕ) → 0x80 ≤ b → b ≤ 0xBF → 0x80 + b % 64 ≡ b

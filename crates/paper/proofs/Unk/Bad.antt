@@ -20,7 +20,8 @@ use Rattle.paper.specs.Unk.Entry.{Entry, UnkLine}
 use Rattle.paper.specs.Unk.Bad.{UnderFour, Unreadable, NoU32, NoI32, BadUnkLine, fields-short, number-unreadable, entries-full}
 use Rattle.paper.specs.Computed.Numeral.{numeral, signedNumeral}
 use Rattle.paper.specs.Computed.ReadUnk.{UnkFound, entry, no-entry, fromUnkNumbers, fromFields, unkLineOf, Entries, entries-are, stops, consEntry, orFull, enterUnk, readEntries}
-use Rattle.paper.proofs.CharDef.Sound.{zero-one, cut-pieces}
+use Rattle.paper.proofs.Apart.{stops-entries}
+use Rattle.paper.proofs.CharDef.Sound.{cut-pieces}
 use Rattle.paper.proofs.CharDef.Complete.{le10}
 use Rattle.paper.proofs.Numbers.Laws.{unsigned-none, signed-none}
 use Rattle.paper.proofs.Unk.Lines.{cut-joinWith, pieces-joinWith}
@@ -131,9 +132,6 @@ unk-bad-line-one a b = sym (bad-given a) ∙ bad-given b
 pub stops-same : {m n j k : ℕ} → stops m j ≡ stops n k → (m ≡ n) × (j ≡ k)
 stops-same h = (cc, cc)
 
-pub entries-stops {ℓ} : {X : Type ℓ} {n k : ℕ} {es : List Entry} → entries-are es ≡ stops n k → X
-entries-stops h = zero-one (cc)
-
 -- a bad line stops the reader, whatever stands behind it
 pub bad-stops : {before : ℕ} {cs : List ℕ} {n : ℕ} (post : List (List ℕ)) → BadUnkLine before cs n → readEntries (suc before) (cs ∷ post) ≡ stops n (suc before)
 unfolding readEntries
@@ -146,7 +144,7 @@ bad-stops {before = before} {cs = cs} post (entries-full {e = e} u full) =
     past full = omega arith
 
 cons-stops : (e : Entry) (o : Entries) (n place : ℕ) → consEntry e o ≡ stops n place → o ≡ stops n place
-cons-stops e (entries-are es) n place h = entries-stops h
+cons-stops e (entries-are es) n place h = stops-entries (sym h)
 cons-stops e (stops m p) n place h = h
 
 -- where the reader stops at a line or behind it: the line is bad, or it is an entry that has its place
@@ -176,4 +174,4 @@ unk-bad-line before cs n most = (λ h. go (line-view before cs (λ j. readEntrie
   where
     go : ((suc before ≡ suc before) × BadUnkLine before cs n) ⊎ ((e : Entry) × UnkLine cs e × (before < maxUnkEntries) × (entries-are [] ≡ stops n (suc before))) → BadUnkLine before cs n
     go (inl (p, b)) = b
-    go (inr (e, u, room, h)) = entries-stops h
+    go (inr (e, u, room, h)) = stops-entries (sym h)

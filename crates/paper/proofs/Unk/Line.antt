@@ -14,7 +14,8 @@ use Rattle.paper.specs.Numbers.Numeral.{Integer, decimal, modulus16, wra
 use Rattle.paper.specs.Unk.Entry.{Entry, nul, UnkLine, Sixteen}
 use Rattle.paper.specs.Computed.Numeral.{numeral, signedNumeral}
 use Rattle.paper.specs.Computed.ReadUnk.{entry, no-entry, fromUnkNumbers, fromFields, unkLineOf}
-use Rattle.paper.proofs.CharDef.Sound.{zero-one, cut-pieces, numeral-sound}
+use Rattle.paper.proofs.Apart.{zero-one}
+use Rattle.paper.proofs.CharDef.Sound.{cut-pieces, numeral-sound}
 use Rattle.paper.proofs.CharDef.Complete.{le10, numeral-read}
 use Rattle.paper.proofs.Numbers.Laws.{signed, wrap-below}
 use Rattle.paper.proofs.Unk.Lines.{cut-joinWith, pieces-joinWith}

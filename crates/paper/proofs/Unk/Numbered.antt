@@ -15,7 +15,7 @@ use borrow.Author.Tests.{eq-eqb}
 use mir.Facts.{and-yes, or-yes, ltb-yes}
 use Rattle.paper.specs.Lists.{all, any}
 use Rattle.paper.specs.Unk.Entry.{rises, Listed}
-use Rattle.paper.proofs.Numbers.Laws.{none-some}
+use Rattle.paper.proofs.Apart.{none-some}
 
 -- ---- lists by number
 

@@ -17,12 +17,13 @@ use Rattle.paper.specs.Unk.Entry.{Lines, Entry, UnkLine, EachUnk, done, 
 use Rattle.paper.specs.Unk.Bad.{BadUnkLine, fields-short, number-unreadable, entries-full, UnkFirstBad, UnkRefused, too-long, ill-formed, bad-line, UnkAnswer, accepted, refused, UnkAnswered, fitting, refusing}
 use Rattle.paper.specs.Computed.Decode.{Text, broken, chars, decode}
 use Rattle.paper.specs.Computed.ReadUnk.{unkLines, Entries, entries-are, stops, readEntries, answerUnk, readUnkText, readUnk}
+use Rattle.paper.proofs.Apart.{stops-entries, unk-refused-accepted}
 use Rattle.paper.proofs.Text.Code.{reads, ill-read}
 use Rattle.paper.proofs.Text.Prefix.{prefix-of, longest-one}
 use Rattle.paper.proofs.Unk.Lines.{lines-are}
 use Rattle.paper.proofs.Unk.Line.{unk-line}
-use Rattle.paper.proofs.Unk.Text.{refused-unk, unk-accepts}
-use Rattle.paper.proofs.Unk.Bad.{stops-same, entries-stops, bad-stops, line-view}
+use Rattle.paper.proofs.Unk.Text.{unk-accepts}
+use Rattle.paper.proofs.Unk.Bad.{stops-same, bad-stops, line-view}
 
 -- ---- the first bad line
 
@@ -33,7 +34,7 @@ each-more (next v t) u = next v (each-more t u)
 stop-first : (css pre : List (List ℕ)) (es : List Entry) (bytes : List ℕ) (n place : ℕ) → Lines bytes (pre ++ css) → EachUnk pre es → length pre ≤ maxUnkEntries
     → readEntries (suc (length pre)) css ≡ stops n place → UnkFirstBad n place bytes
 unfolding readEntries
-stop-first [] pre es bytes n place split each few h = entries-stops h
+stop-first [] pre es bytes n place split each few h = stops-entries (sym h)
 stop-first (cs ∷ css) pre es bytes n place split each few h =
     go (line-view (length pre) cs (λ j. readEntries j css) n place few h) (λ es′. stop-first css (pre ++ (cs ∷ [])) es′ bytes n place)
   where
@@ -89,7 +90,7 @@ refused-same : {m n j k : ℕ} → refused m j ≡ refused n k → (m ≡ n) × 
 refused-same h = (cc, cc)
 
 answer-stops : (names : List (List ℕ)) (o : Entries) (n place : ℕ) → answerUnk names o ≡ refused n place → o ≡ stops n place
-answer-stops names (entries-are es) n place h = refused-unk (sym h)
+answer-stops names (entries-are es) n place h = unk-refused-accepted (sym h)
 answer-stops names (stops m p) n place h = let (en, ep) = refused-same h in ap₂ stops en ep
 
 unk-refused-sound : (names : List (List ℕ)) (bytes : List ℕ) (n place : ℕ) → readUnk names bytes ≡ refused n place → UnkRefused bytes n place
