@@ -13,8 +13,8 @@ use Rattle.paper.specs.CharDef.Reading.{Reading, readingOf, nameBytes, r
 use Rattle.paper.specs.Computed.Decode.{Text, broken, chars, decode}
 use Rattle.paper.specs.Computed.ReadText.{readLines, nothingRead, readChars, readText}
 use Rattle.paper.proofs.Apart.{refused-accepted}
-use Rattle.paper.proofs.Lists.Facts.{T→false}
-use Rattle.paper.proofs.CharDef.Sound.{false→T, cut-pieces}
+use Rattle.paper.proofs.Lists.Facts.{T→false, false→T}
+use Rattle.paper.proofs.CharDef.Sound.{cut-pieces}
 use Rattle.paper.proofs.Text.Code.{decode-complete, decode-sound}
 use Rattle.paper.proofs.CharDef.Whole.{lines-sound, lines-complete, cut-joined, pieces-joined}
 

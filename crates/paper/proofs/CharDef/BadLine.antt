@@ -20,8 +20,8 @@ use Rattle.paper.specs.CharDef.BadLine.{Body, Fields, last-field, more-f
 use Rattle.paper.specs.Computed.Numeral.{numeral}
 use Rattle.paper.specs.Computed.ReadText.{Found, found, wrong, BoundFound, parts, fromBounds, fromParts, rangeOf, fromNumbers, categoryOf, body, bodyLine, lineOf, Step, go-on, stop, enter, enterFound, verdict, readLines}
 use Rattle.paper.proofs.Apart.{zero-one, none-some, wrong-found, refused-accepted}
-use Rattle.paper.proofs.Lists.Facts.{T→true, T→false, true→T}
-use Rattle.paper.proofs.CharDef.Sound.{false→T, numeral-sound, line-sound}
+use Rattle.paper.proofs.Lists.Facts.{T→true, T→false, true→T, false→T}
+use Rattle.paper.proofs.CharDef.Sound.{numeral-sound, line-sound}
 use Rattle.paper.proofs.CharDef.Complete.{numeral-read, line-complete}
 use Rattle.paper.proofs.CharDef.Whole.{lines-sound, lines-complete}
 use Rattle.paper.proofs.CharDef.Bodies.{sep-white, has-body, body-is, fields-words, has-fields}

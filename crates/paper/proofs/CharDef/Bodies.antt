@@ -12,8 +12,8 @@ use Rattle.paper.specs.Text.Scalar.{isWhite, isSep, hash}
 use Rattle.paper.specs.CharDef.Line.{isHash}
 use Rattle.paper.specs.CharDef.BadLine.{endsWhite, Body, Fields, last-field, more-fields}
 use Rattle.paper.specs.Computed.ReadText.{body}
-use Rattle.paper.proofs.Lists.Facts.{true→T, apart, all-append, full-all, all-imp, un, until-append, trimStart-append, trimEnd-append, words-word, words-run}
-use Rattle.paper.proofs.CharDef.Sound.{false→T, Spread, run, word, words-spread}
+use Rattle.paper.proofs.Lists.Facts.{true→T, apart, all-append, full-all, all-imp, un, until-append, trimStart-append, trimEnd-append, words-word, words-run, false→T}
+use Rattle.paper.proofs.CharDef.Sound.{Spread, run, word, words-spread}
 
 -- ---- characters
 

@@ -18,23 +18,14 @@ use Rattle.paper.specs.CharDef.Reading.{Definition, Reading, namesOf, na
 use Rattle.paper.specs.CharDef.BadLine.{NoRoom, too-many, too-long, knownWith, FirstOver, PastLimit, range-over, references-over, range-name, line-over, category-name}
 use Rattle.paper.specs.Computed.ReadText.{stop, Interned, names-are, full-at, internOne, afterOne, intern, addRange, addDefinition, enter}
 use Rattle.paper.proofs.Apart.{zero-one, full-names, stop-go}
-use Rattle.paper.proofs.Lists.Facts.{T→true, T→false, true→T}
+use Rattle.paper.proofs.Lists.Facts.{T→true, T→false, true→T, false→T, any-append}
 use Rattle.paper.proofs.Lists.Seen.{same-eq}
-use Rattle.paper.proofs.CharDef.Sound.{false→T}
 
 nil-middle {ℓ} : {X : Type ℓ} (a : List (List ℕ)) (x : List ℕ) (b : List (List ℕ)) → [] ≡ a ++ (x ∷ b) → X
 nil-middle [] x b e = zero-one (cc)
 nil-middle (y ∷ a) x b e = zero-one (cc)
 
 -- ---- what is new
-
-any-append : {A : Type 0} (p : A → Bool) (s t : List A) → any p (s ++ t) ≡ (any p s || any p t)
-any-append p [] t = refl
-any-append p (x ∷ s) t = ap (λ b. p x || b) (any-append p s t) ∙ regroup (p x) (any p s) (any p t)
-  where
-    regroup : (a b c : Bool) → (a || (b || c)) ≡ (a || b || c)
-    regroup true b c = refl
-    regroup false b c = refl
 
 -- only what is known matters, not in which order
 fresh-same : (b c xs : List (List ℕ)) → ((n : List ℕ) → any (same n) b ≡ any (same n) c) → freshAfter same b xs ≡ freshAfter same c xs

@@ -16,12 +16,8 @@ use Rattle.paper.specs.CharDef.Line.{Line, blank, category, range, isHas
 use Rattle.paper.specs.Computed.Numeral.{spelledBy, numeral}
 use Rattle.paper.specs.Computed.ReadText.{found, BoundFound, noBound, strip0x, parts, checkedBound, boundOf, fromBounds, fromParts, rangeOf, fromNumbers, categoryOf, body, bodyLine, lineOf}
 use Rattle.paper.proofs.Apart.{none-some, wrong-found, none-bound}
-use Rattle.paper.proofs.Lists.Facts.{true→T, apart, all-append, all-imp, un}
+use Rattle.paper.proofs.Lists.Facts.{true→T, apart, all-append, all-imp, un, false→T, all-left, all-right}
 use Rattle.paper.specs.CharDef.Line as line
-
-pub false→T : (b : Bool) → b ≡ false → T (not b)
-false→T true e = subst (λ b. T (not b)) (sym e) tt
-false→T false e = tt
 
 -- ---- what the steps leave
 
@@ -218,14 +214,6 @@ bounds-sound f names l z (dots r w (dots s v (dots t u d))) h = wrong-found h
 
 clash {ℓ} : {X : Type ℓ} (b : Bool) → T b → T (not b) → X
 clash b t u = absurd (T-not b t u)
-
-pub all-left : {A : Type 0} (p : A → Bool) (s t : List A) → T (all p (s ++ t)) → T (all p s)
-all-left p [] t a = tt
-all-left p (x ∷ s) t a = let h = and-yes (p x) (all p (s ++ t)) a in yes-and (p x) (all p s) (h .0) (all-left p s t (h .1))
-
-pub all-right : {A : Type 0} (p : A → Bool) (s t : List A) → T (all p (s ++ t)) → T (all p t)
-all-right p [] t a = a
-all-right p (x ∷ s) t a = all-right p s t (and-yes (p x) (all p (s ++ t)) a .1)
 
 -- a run between a place that begins with a separator and a word is not empty
 gap-full : (p : ℕ → Bool) (w f r : List ℕ) → T (nothingOr p (w ++ (f ++ r))) → T (full (un p) f) → T (all p w) → T (full p w)

@@ -1,7 +1,6 @@
 -- A text is accepted exactly with the readings that fit its lines.
 -- Assumes nothing.
 use Prim.Native.Nat.{ℕ, suc, _+_, _<_, _≤_}
-use native.Mathlib.Nat.{add-assoc}
 use native.Mathlib.Omega.{arith}
 use mathlib.Core.Path.{_≡_, refl, sym, ap, ap₂, _∙_, subst}
 use mathlib.Core.Bool.{Bool, true, false, not, cond}
@@ -15,30 +14,15 @@ use Rattle.paper.specs.CharDef.Line.{Line, blank, category, range}
 use Rattle.paper.specs.CharDef.Reading.{Definition, Range, Reading, namesOf, definitionsOf, rangesOf, readingOf, nameBytes, references, Within, joinLF, noLF, EachFits, done, next, isLF, accepted}
 use Rattle.paper.specs.Computed.ReadText.{Found, found, wrong, lineOf, Step, go-on, stop, Interned, names-are, full-at, internOne, afterOne, intern, addRange, addDefinition, enter, enterFound, afterLine, readLines}
 use Rattle.paper.proofs.Apart.{full-names, stop-go, refused-accepted}
-use Rattle.paper.proofs.Lists.Facts.{T→false, cut-run, pushAll-first}
+use Rattle.paper.proofs.Lists.Facts.{T→false, cut-run, pushAll-first, false→T, all-left, all-right, map-append, joined-map, sum-append}
 use Rattle.paper.proofs.Lists.Seen.{same-eq, same-refl, seen-snoc, seen-append, seen-has, position-stays}
 use Rattle.paper.proofs.CharDef.Complete.{line-complete}
-use Rattle.paper.proofs.CharDef.Sound.{line-sound, Pieces, last, then, all-left, all-right, false→T}
+use Rattle.paper.proofs.CharDef.Sound.{line-sound, Pieces, last, then}
 
 -- ---- lists
 
-pub map-append : {A B : Type 0} (f : A → B) (s t : List A) → map f (s ++ t) ≡ map f s ++ map f t
-map-append f [] t = refl
-map-append f (x ∷ s) t = ap (λ l. f x ∷ l) (map-append f s t)
-
-joined-append : {A : Type 0} (s t : List (List A)) → joined (s ++ t) ≡ joined s ++ joined t
-joined-append [] t = refl
-joined-append (x ∷ s) t = ap (λ l. x ++ l) (joined-append s t) ∙ sym (append-assoc x (joined s) (joined t))
-
-joined-map : {A B : Type 0} (f : A → List B) (s t : List A) → joined (map f (s ++ t)) ≡ joined (map f s) ++ joined (map f t)
-joined-map f s t = ap joined (map-append f s t) ∙ joined-append (map f s) (map f t)
-
 joined-snoc : {A B : Type 0} (f : A → List B) (s : List A) (x : A) → joined (map f (s ++ (x ∷ []))) ≡ joined (map f s) ++ f x
 joined-snoc f s x = joined-map f s (x ∷ []) ∙ ap (λ l. joined (map f s) ++ l) (append-nil (f x))
-
-sum-append : (s t : List ℕ) → sum (s ++ t) ≡ sum s + sum t
-sum-append [] t = omega arith
-sum-append (x ∷ s) t = ap (λ n. x + n) (sum-append s t) ∙ sym (add-assoc x (sum s) (sum t))
 
 bytes-append : (s t : List (List ℕ)) → nameBytes (s ++ t) ≡ nameBytes s + nameBytes t
 unfolding nameBytes

@@ -15,8 +15,7 @@ use Rattle.paper.specs.Numbers.Bytes.{isByte}
 use Rattle.paper.specs.Pack.Fields.{byteWidth, Field, field, bits, fieldBits, spell, bytesOf, byte, inBytes}
 use Rattle.paper.specs.Computed.ReadPack.{unpackBits, Taken, short, taken, takeNumber, consTaken, afterByte, takeBytes, isPadding}
 use Rattle.paper.proofs.Apart.{short-taken}
-use Rattle.paper.proofs.Lists.Facts.{all-append}
-use Rattle.paper.proofs.CharDef.Sound.{all-left, all-right}
+use Rattle.paper.proofs.Lists.Facts.{all-append, all-left, all-right}
 
 abbrev pub isBit : ℕ → Bool
 isBit b = ltb b 2

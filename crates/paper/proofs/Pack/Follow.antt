@@ -21,8 +21,7 @@ use Rattle.paper.specs.Pack.Broken.{Head, Due, versionField, categoriesF
 use Rattle.paper.specs.Computed.ReadPack.{Taken, short, taken, takeNumber, consTaken, afterByte, takeBytes, Outcome, gave, broke, Reader, afterOutcome, _▹_, give, settle, fieldOr, number, free, bytesField, demand, isPadding, padding, many, lengthRule, nameRule, readName, readNames, readDefinition, countRule, readRange, readRanges, upTo, readBody, readCounted, readFields, readAll, readPack}
 use Rattle.paper.specs.Computed.Rules.{formed}
 use Rattle.paper.proofs.Apart.{short-taken, broke-gave}
-use Rattle.paper.proofs.Lists.Facts.{true→T}
-use Rattle.paper.proofs.CharDef.Sound.{false→T}
+use Rattle.paper.proofs.Lists.Facts.{true→T, false→T}
 use Rattle.paper.proofs.Pack.Size.{bits-length}
 use Rattle.paper.proofs.Pack.Rules.{formed-is, is-formed}
 use Rattle.paper.proofs.Pack.Bits.{isBit, spell-append, unpack-bits, taken-number, number-short, bytes-taken, bytesOf-bits, bytesOf-length, bytesOf-bytes}

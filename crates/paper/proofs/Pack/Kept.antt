@@ -19,8 +19,7 @@ use Rattle.paper.specs.Computed.Decode.{decode}
 use Rattle.paper.specs.Computed.ReadPack.{readPack}
 use Rattle.paper.specs.Computed.ReadText.{readText}
 use Rattle.paper.specs.Computed.Rules.{isText, formed}
-use Rattle.paper.proofs.Lists.Facts.{all-append, all-imp}
-use Rattle.paper.proofs.CharDef.Sound.{false→T, all-left, all-right}
+use Rattle.paper.proofs.Lists.Facts.{all-append, all-imp, false→T, all-left, all-right}
 use Rattle.paper.proofs.Text.Code.{decode-complete}
 use Rattle.paper.proofs.CharDef.Accepts.{accepted-fits}
 use Rattle.paper.proofs.Pack.Size.{reading-numbered}

@@ -19,8 +19,7 @@ use Rattle.paper.specs.Pack.Fields.{version, versionWidth, categoriesWid
 use Rattle.paper.specs.Pack.Rules.{PackRules}
 use Rattle.paper.specs.Computed.ReadPack.{unpackBits, Taken, short, taken, takeNumber, consTaken, afterByte, takeBytes, Outcome, gave, broke, Reader, afterOutcome, _▹_, give, settle, fieldOr, number, bytesField, demand, isPadding, padding, many, lengthRule, nameRule, readName, readNames, readDefinition, readRange, readRanges, upTo, readBody, readCounted, readFields, readAll, answer, readPack}
 use Rattle.paper.proofs.Apart.{refused-accepted, short-taken, broke-gave}
-use Rattle.paper.proofs.Lists.Facts.{T→false}
-use Rattle.paper.proofs.CharDef.Sound.{false→T, all-left}
+use Rattle.paper.proofs.Lists.Facts.{T→false, false→T, all-left}
 use Rattle.paper.proofs.Pack.Bits.{unpack-bits, number-taken}
 use Rattle.paper.proofs.Pack.Trip.{fields-read, fields-of, pack-is}
 

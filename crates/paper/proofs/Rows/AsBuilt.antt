@@ -21,11 +21,11 @@ use Rattle.paper.specs.Rows.Covering.{boundaries, categoriesAt, rows}
 use Rattle.paper.specs.Rows.Flat.{RowFound, entryOffset, entryLength, offsetOf, flatEntry, entryPart, shortRows, flatPool}
 use Rattle.paper.specs.Rows.Build.{offsets}
 use Rattle.paper.specs.Rows.Lookup.{Looked, gives, LookupTables, Part, content, usesFlat, flatPart, rowPart, indexOdd, fromZero, rowMissing, pastPool, apart, Looks, packedAt, Begins, RowsLeft, FlatLeft, AsBuilt, without-flat, with-flat}
-use Rattle.paper.proofs.Lists.Facts.{T→true, true→T}
+use Rattle.paper.proofs.Lists.Facts.{T→true, true→T, joined-length}
 use Rattle.paper.proofs.Lists.Parts.{take-part}
 use Rattle.paper.proofs.Rows.Boundaries.{row-for-each}
 use Rattle.paper.proofs.Rows.Search.{from-zero, found-row}
-use Rattle.paper.proofs.Rows.Flat.{part-of, part-inside, joined-length, flat-part, flat-inside, index-length, index-at}
+use Rattle.paper.proofs.Rows.Flat.{part-of, part-inside, flat-part, flat-inside, index-length, index-at}
 use Rattle.paper.proofs.Rows.Build.{overlong-is, offsets-length}
 use Rattle.paper.proofs.Rows.Lookup.{answered}
 

@@ -16,9 +16,10 @@ use Rattle.paper.specs.Rows.Covering.{boundaries, rows}
 use Rattle.paper.specs.Rows.Flat.{shortRows, flatIndex, flatPool}
 use Rattle.paper.specs.Rows.Build.{rowsNeeded, placesNeeded, rowOverlong, built, rowsBuilt, flatBuilt, packWritten, offsets}
 use Rattle.paper.specs.Pack.Rules.{PackRules}
+use Rattle.paper.proofs.Lists.Facts.{joined-length}
 use Rattle.paper.proofs.Rows.Boundaries.{row-for-each}
 use Rattle.paper.proofs.Rows.Sizes.{boundaries-fit, places-fit}
-use Rattle.paper.proofs.Rows.Flat.{joined-length, index-length}
+use Rattle.paper.proofs.Rows.Flat.{index-length}
 use Rattle.paper.proofs.Pack.Size.{pack-length}
 
 above : (m n : ℕ) → ltb m n ≡ not (leb n m)

@@ -11,8 +11,7 @@ use borrow.Author.Tests.{eqb-true}
 use Rattle.paper.specs.Lists.{empty, any, select, joined, freshAfter, firstSeen, positionOf, same, distinct}
 use Rattle.paper.specs.CharDef.Reading.{Range, Reading}
 use Rattle.paper.specs.Rows.Covering.{holds, covers, named, defaults, orElse, categoriesAt, default}
-use Rattle.paper.proofs.Lists.Facts.{T→true, T→false, true→T}
-use Rattle.paper.proofs.CharDef.Sound.{false→T}
+use Rattle.paper.proofs.Lists.Facts.{T→true, T→false, true→T, false→T, any-append}
 use Rattle.paper.proofs.Rows.Sizes.{fresh-distinct}
 
 -- no category twice
@@ -27,14 +26,6 @@ no-repeats r c = go (named r c) (fresh-distinct [] (covers r c))
     go : (l : List ℕ) → T (distinct l) → T (distinct (orElse l (defaults r)))
     go [] d = alone (any (same default) (r .names)) _
     go (x ∷ l) d = d
-
-any-append : {A : Type 0} (p : A → Bool) (s t : List A) → any p (s ++ t) ≡ (any p s || any p t)
-any-append p [] t = refl
-any-append p (x ∷ s) t = go (p x) (any-append p s t)
-  where
-    go : (b : Bool) → any p (s ++ t) ≡ (any p s || any p t) → (b || any p (s ++ t)) ≡ (b || any p s || any p t)
-    go true ih = refl
-    go false ih = ih
 
 -- first sights have the elements that the list has
 fresh-any : (before l : List ℕ) (x : ℕ) → (any (eqb x) before || any (eqb x) (freshAfter eqb before l)) ≡ (any (eqb x) before || any (eqb x) l)

@@ -7,7 +7,7 @@ use native.Mathlib.Omega.{arith}
 use mathlib.Core.Path.{_≡_, refl, ap, _∙_}
 use mathlib.Core.List.{List, [], _∷_, map}
 use lib.Dec.{T, leb}
-use lib.ListN.{length, getD, take, drop, length-append, length-map}
+use lib.ListN.{length, getD, take, drop, length-map}
 use lib.Seq.{take-append-seam, drop-append-add}
 use mir.Facts.{and-yes, leb-yes}
 use Rattle.paper.specs.Sizes.{maxFlatRow, maxRowPlaces, maxU32, bmpSize}
@@ -16,6 +16,7 @@ use Rattle.paper.specs.CharDef.Reading.{Reading, Within}
 use Rattle.paper.specs.Rows.Covering.{categoriesAt, boundaries, rows}
 use Rattle.paper.specs.Rows.Flat.{rowNumber, entry, entryOffset, entryLength, maxOffset, offsetOf, flatEntry, entryPart, shortRows, counting, flatIndex, flatPool}
 use Rattle.paper.specs.Pack.Rules.{numbered}
+use Rattle.paper.proofs.Lists.Facts.{joined-length}
 use Rattle.paper.proofs.Rows.Boundaries.{row-for-each}
 use Rattle.paper.proofs.Rows.Sizes.{places-fit}
 use Rattle.paper.proofs.Rows.Search.{row-found, found-row}
@@ -33,10 +34,6 @@ unfolding offsetOf
 part-inside [] i h = absurd (not-suc-le-zero h)
 part-inside (w ∷ ws) zero h = omega arith
 part-inside (w ∷ ws) (suc i) h = let k = part-inside ws i (le-of-suc-le-suc h) in omega arith
-
-pub joined-length : (ws : List (List ℕ)) → length (joined ws) ≡ sum (map length ws)
-joined-length [] = refl
-joined-length (w ∷ ws) = length-append w (joined ws) ∙ ap (λ n. length w + n) (joined-length ws)
 
 row-short : (ws : List (List ℕ)) (i : ℕ) → T (shortRows ws) → length (getD ws i []) ≤ maxFlatRow
 unfolding shortRows

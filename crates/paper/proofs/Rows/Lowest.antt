@@ -13,9 +13,8 @@ use Rattle.paper.specs.Lists.{any, positionOf, same}
 use Rattle.paper.specs.Pack.Rules.{onceAfter}
 use Rattle.paper.specs.Rows.Numbers.{lowest}
 use Rattle.paper.proofs.Apart.{none-some}
-use Rattle.paper.proofs.Lists.Facts.{T→true, T→false, true→T}
+use Rattle.paper.proofs.Lists.Facts.{T→true, T→false, true→T, false→T}
 use Rattle.paper.proofs.Lists.Seen.{same-eq, same-refl}
-use Rattle.paper.proofs.CharDef.Sound.{false→T}
 
 -- where x is there, it stands at its position and nowhere before
 pub record First (x : List ℕ) (ns : List (List ℕ)) (k : ℕ) : Type 0 where

@@ -17,8 +17,7 @@ use Rattle.paper.specs.CharDef.Reading.{Range, Reading, Within}
 use Rattle.paper.specs.Rows.Covering.{holds, named, defaults, orElse, categoriesAt, insert, ascending, boundaries, rows, default}
 use Rattle.paper.specs.Rows.Flat.{maxOffset}
 use Rattle.paper.specs.Pack.Rules.{numbered}
-use Rattle.paper.proofs.Lists.Facts.{true→T, or-left, or-right, all-append}
-use Rattle.paper.proofs.CharDef.Sound.{false→T}
+use Rattle.paper.proofs.Lists.Facts.{true→T, or-left, or-right, all-append, false→T}
 use Rattle.paper.proofs.Rows.Boundaries.{row-for-each}
 
 any-select : (p q : ℕ → Bool) (l : List ℕ) → T (any p (select q l)) → T (any p l)

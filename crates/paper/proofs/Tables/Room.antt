@@ -12,8 +12,9 @@ use Rattle.paper.specs.Pack.Rules.{PackRules}
 use Rattle.paper.specs.Tables.Layout.{Tables, layout, behind, nameSlots, rangeSlots, nameSlotBytes, definitionBytes, slotBytes, numbersOf, countsOf, inRoom}
 use Rattle.paper.specs.Tables.Lent.{padded}
 use Rattle.paper.specs.Computed.HandedIn.{handedIn}
+use Rattle.paper.proofs.Lists.Facts.{joined-length}
 use Rattle.paper.proofs.Tables.Laws.{table-length}
-use Rattle.paper.proofs.Tables.Trip.{tables-is, handed-in, joined-length, places-length, rows-length, numbers-length, wide-place, wide-definition, wide-row, wide-number}
+use Rattle.paper.proofs.Tables.Trip.{tables-is, handed-in, places-length, rows-length, numbers-length, wide-place, wide-definition, wide-row, wide-number}
 
 -- the zero bytes behind l: shut, so that nothing counts them out
 zeros : ℕ → List ℕ → List ℕ

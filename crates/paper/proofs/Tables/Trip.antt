@@ -24,8 +24,7 @@ use Rattle.paper.specs.Computed.HandedIn.{enough, nameSlotsStand, slotsS
 use Rattle.paper.specs.Computed.Rules.{formed}
 use Rattle.paper.specs.declared.Counts.{Counts}
 use Rattle.paper.specs.Pack.Rules as rule
-use Rattle.paper.proofs.Lists.Facts.{all-append}
-use Rattle.paper.proofs.CharDef.Sound.{all-left, all-right}
+use Rattle.paper.proofs.Lists.Facts.{all-append, all-left, all-right, joined-length}
 use Rattle.paper.proofs.Pack.Rules.{each-all, all-each, formed-is, is-formed}
 use Rattle.paper.proofs.Pack.Trip.{bound-bits}
 use Rattle.paper.proofs.Lists.Facts.{T→true, true→T}
@@ -346,10 +345,6 @@ all-lt k (x ∷ l) h t =
     let i = and-yes (ltb x k) (all (λ c. ltb c k) l) t in
     let j : x < k = ltb-yes (i .0) in
     yes-and (ltb x (maxU16 + 1)) (all small l) (is-lt x (maxU16 + 1) (omega arith)) (all-lt k l h (i .1))
-
-pub joined-length : (xs : List (List ℕ)) → length (joined xs) ≡ sum (map length xs)
-joined-length [] = refl
-joined-length (x ∷ xs) = length-append x (joined xs) ∙ ap (λ m. length x + m) (joined-length xs)
 
 -- the rules as the tests of tables have them
 record Kept (r : Reading) : Type 0 where

@@ -18,8 +18,7 @@ use Rattle.paper.specs.Unk.Bad.{accepted, refused}
 use Rattle.paper.specs.Computed.Decode.{Text, broken, chars, decode}
 use Rattle.paper.specs.Computed.ReadUnk.{unkLines, UnkFound, entry, no-entry, unkLineOf, Entries, entries-are, stops, consEntry, orFull, enterUnk, readEntries, answerUnk, readUnkText, readUnk}
 use Rattle.paper.proofs.Apart.{stops-entries, unk-refused-accepted}
-use Rattle.paper.proofs.Lists.Facts.{T→false}
-use Rattle.paper.proofs.CharDef.Sound.{false→T}
+use Rattle.paper.proofs.Lists.Facts.{T→false, false→T}
 use Rattle.paper.proofs.Text.Code.{decode-complete, decode-sound}
 use Rattle.paper.proofs.Unk.Lines.{lines-are}
 use Rattle.paper.proofs.Unk.Line.{unk-line-sound, unk-line-complete}
