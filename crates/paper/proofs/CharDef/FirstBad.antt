@@ -25,7 +25,7 @@ use Rattle.paper.specs.Computed.Decode.{Text, broken, chars, decode}
 use Rattle.paper.specs.Computed.ReadText.{lineOf, body, bodyLine, Step, go-on, stop, enter, verdict, afterLine, readLines, nothingRead, readChars, readText}
 use Rattle.paper.proofs.Apart.{nil-cons, refused-accepted}
 use Rattle.paper.proofs.Lists.Facts.{T→true, T→false, all-append, cut-run, pushAll-first, false→T, all-left, all-right, map-append}
-use Rattle.paper.proofs.CharDef.Sound.{cut-pieces}
+use Rattle.paper.proofs.Lists.Pieces.{cut-pieces}
 use Rattle.paper.proofs.Text.Code.{decode-complete, decode-sound, utf8-one}
 use Rattle.paper.proofs.Text.Bytes.{utf8-append, cut-utf8}
 use Rattle.paper.proofs.CharDef.Whole.{cut-joined, pieces-joined}

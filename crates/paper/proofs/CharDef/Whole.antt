@@ -16,8 +16,9 @@ use Rattle.paper.specs.Computed.ReadText.{Found, found, wrong, lineOf, S
 use Rattle.paper.proofs.Apart.{full-names, stop-go, refused-accepted}
 use Rattle.paper.proofs.Lists.Facts.{T→false, cut-run, pushAll-first, false→T, all-left, all-right, map-append, joined-map, sum-append}
 use Rattle.paper.proofs.Lists.Seen.{same-eq, same-refl, seen-snoc, seen-append, seen-has, position-stays}
+use Rattle.paper.proofs.Lists.Pieces.{Pieces, last, then}
 use Rattle.paper.proofs.CharDef.Complete.{line-complete}
-use Rattle.paper.proofs.CharDef.Sound.{line-sound, Pieces, last, then}
+use Rattle.paper.proofs.CharDef.Sound.{line-sound}
 
 -- ---- lists
 

@@ -18,8 +18,7 @@ use Rattle.paper.specs.Numbers.Numeral.{isDigit, Numeral, Spelled, Integ
 use Rattle.paper.specs.Computed.Numeral.{spelledBy, numeral, asNeg, asPos, signedNumeral}
 use Rattle.paper.proofs.Apart.{none-some, nil-cons}
 use Rattle.paper.proofs.Lists.Facts.{T→true, T→false}
-use Rattle.paper.proofs.CharDef.Sound.{spelled-sound, numeral-sound}
-use Rattle.paper.proofs.CharDef.Complete.{digit-apart, numeral-chars, numeral-read}
+use Rattle.paper.proofs.Numbers.Read.{spelled-sound, numeral-sound, digit-apart, numeral-chars, numeral-read}
 
 -- ---- digits
 

@@ -9,8 +9,8 @@ use mathlib.Core.List.{List, [], _∷_, _++_, append-assoc}
 use mathlib.Core.Option.{Option, none, some}
 use lib.Dec.{T}
 use lib.ListN.{length, length-append}
-use Rattle.paper.specs.Lists.{all}
 use Rattle.paper.specs.Refusals.{packEnds, packRule, packLeftOver}
+use Rattle.paper.specs.Lists.{all}
 use Rattle.paper.specs.Numbers.Bytes.{isByte}
 use Rattle.paper.specs.CharDef.Reading.{Reading, Answer, accepted, refused}
 use Rattle.paper.specs.Pack.Fields.{Field, field, bits, spell, packBytes}

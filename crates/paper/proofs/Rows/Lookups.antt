@@ -1,13 +1,13 @@
 -- Demand 2 over the reading of an accepted text, gathered: at every scalar value a lookup over tables as built answers the covering ranges'
 -- distinct categories in first-seen order, by rows and by the flat table; all of it fits its tables; names and numbers come back.
 -- Assumes nothing.
-use Prim.Native.Nat.{ℕ, _*_, _<_, _≤_}
-use mathlib.Core.Path.{_≡_, sym, ap, ap₂, _∙_, subst}
+use Prim.Native.Nat.{ℕ, _<_, _≤_}
+use mathlib.Core.Path.{_≡_, sym, subst}
 use mathlib.Core.Bool.{not, _&&_}
 use mathlib.Core.List.{List, [], map}
 use mathlib.Core.Option.{some}
 use lib.Dec.{T, ltb, eqb}
-use lib.ListN.{length, getD, drop, take-append-drop}
+use lib.ListN.{length, getD}
 use Rattle.paper.specs.Sizes.{maxRows, maxRowPlaces, maxU32, bmpSize}
 use Rattle.paper.specs.Refusals.{notScalar}
 use Rattle.paper.specs.Lists.{any, empty, sum, positionOf, distinct}
@@ -18,9 +18,8 @@ use Rattle.paper.specs.Rows.Flat.{evalRow, entryOffset, entryLength, max
 use Rattle.paper.specs.Rows.Lookup.{Looked, gives, refuses, LookupTables, Part, ofFlat, Looks, packedAt, FlatLeft, AsBuilt, without-flat, with-flat}
 use Rattle.paper.specs.Rows.Numbers.{lowest, findName, definitionAt, nameAt, lookupDefinition, categoryName, nameOf}
 use Rattle.paper.specs.Pack.Rules.{PackRules}
-use Rattle.paper.specs.Tables.Layout.{Tables, used, behind}
+use Rattle.paper.specs.Tables.Layout.{Tables}
 use Rattle.paper.specs.Tables.HandedIn.{HoldTogether}
-use Rattle.paper.specs.Computed.HandedIn.{handedIn}
 use Rattle.paper.specs.declared.Counts.{Counts}
 use Rattle.paper.proofs.Text.Scalar.{surrogate, beyond}
 use Rattle.paper.proofs.Rows.Boundaries.{boundaries-are, row-for-each}
@@ -33,7 +32,7 @@ use Rattle.paper.proofs.Rows.Lookup.{no-scalar, looks-one, looks-some, 
 use Rattle.paper.proofs.Rows.AsBuilt.{Holds, looked-up, packed-there}
 use Rattle.paper.proofs.Rows.Numbers.{name-found, name-back, number-name, number-definition}
 use Rattle.paper.proofs.Pack.Kept.{fits-rules}
-use Rattle.paper.proofs.Tables.Trip.{tables-is, handed-in}
+use Rattle.paper.proofs.Tables.Holds.{stands-handed}
 
 pub record Lookups (r : Reading) : Type 0 where
   -- boundaries and rows
@@ -75,22 +74,6 @@ pub record Lookups (r : Reading) : Type 0 where
       → nameOf (t .names) (categoryName (t .names) (t .categories) (n .categories) k) ≡ nameAt r k
   pub defines : (t : Tables) (n : Counts) (k : ℕ) → HoldTogether t n r → lookupDefinition (t .definitions) (n .definitions) k ≡ definitionAt r k
 
--- tables in which a reading stands are handed in as it
-stands : (t : Tables) (n : Counts) (r : Reading) → HoldTogether t n r → handedIn t n ≡ some r
-unfolding used behind
-stands t n r h =
-    let rest : Tables = record {
-      names = drop (n .bytes) (t .names);
-      categories = drop (4 * n .categories) (t .categories);
-      definitions = drop (6 * n .definitions) (t .definitions);
-      ranges = drop (8 * n .ranges) (t .ranges);
-      references = drop (2 * n .references) (t .references);
-    } in
-    let whole : behind (used n t) rest ≡ t =
-    tables-is t _ _ _ _ _ (take-append-drop (n .bytes) (t .names)) (take-append-drop (4 * n .categories) (t .categories))
-    (take-append-drop (6 * n .definitions) (t .definitions)) (take-append-drop (8 * n .ranges) (t .ranges)) (take-append-drop (2 * n .references) (t .references)) in
-    ap₂ handedIn (sym (ap (λ u. behind u rest) (h .laid-out) ∙ whole)) (sym (h .counted)) ∙ handed-in r rest (h .rules)
-
 built-rises : (r : Reading) (t : LookupTables) → AsBuilt r t → T (rising (t .boundaries))
 built-rises r t (without-flat l e) = subst (λ bs. T (rising bs)) (sym (l .boundaries-are)) (boundaries-are r .ascending)
 built-rises r t (with-flat l f) = subst (λ bs. T (rising bs)) (sym (l .boundaries-are)) (boundaries-are r .ascending)
@@ -122,8 +105,8 @@ lookups bytes r f = go (fits-rules bytes r f)
           nothing-beyond = λ t c a h. no-scalar t c a (beyond c h);
           packed = λ t c f. packed-there r t f c;
           packed-part = packed-same;
-          finds = λ t n name h. name-found t n r (stands t n r h) name;
-          finds-back = λ t n k h. name-back t n r (stands t n r h) k;
-          names = λ t n k h. number-name t n r (stands t n r h) k;
-          defines = λ t n k h. number-definition t n r (stands t n r h) k;
+          finds = λ t n name h. name-found t n r (stands-handed t n r h) name;
+          finds-back = λ t n k h. name-back t n r (stands-handed t n r h) k;
+          names = λ t n k h. number-name t n r (stands-handed t n r h) k;
+          defines = λ t n k h. number-definition t n r (stands-handed t n r h) k;
         }

@@ -10,8 +10,8 @@ use lib.Dec.{T}
 use lib.ListN.{length, getD}
 use mir.Facts.{and-yes, T-not}
 use Rattle.paper.specs.Lists.{any, positionOf, same}
-use Rattle.paper.specs.Pack.Rules.{onceAfter}
 use Rattle.paper.specs.Rows.Numbers.{lowest}
+use Rattle.paper.specs.Pack.Rules.{onceAfter}
 use Rattle.paper.proofs.Apart.{none-some}
 use Rattle.paper.proofs.Lists.Facts.{T→true, T→false, true→T, false→T}
 use Rattle.paper.proofs.Lists.Seen.{same-eq, same-refl}

@@ -16,9 +16,9 @@ use borrow.Author.Tests.{leb-true, leb-false, le-ltb}
 use Rattle.paper.specs.Refusals.{numberUnknown}
 use Rattle.paper.specs.Lists.{all, any}
 use Rattle.paper.specs.CharDef.Reading.{Reading}
-use Rattle.paper.specs.Pack.Rules.{once}
 use Rattle.paper.specs.Rows.Lookup.{gives, refuses}
 use Rattle.paper.specs.Rows.Numbers.{slotWidth, definitionWidth, nameSlotsOf, nameIn, pastStore, lowest, findName, numberOf, definitionAt, nameAt, entryAt, lookupDefinition, categoryName, nameOf}
+use Rattle.paper.specs.Pack.Rules.{once}
 use Rattle.paper.specs.Tables.Layout.{NameSlot, Tables, pieces, nameSlotOf, definitionOf, split}
 use Rattle.paper.specs.Computed.HandedIn.{nameSlotsStand, slotsStand, flagged, nameSlotsIn, namesIn, slotsIn, numbersIn, enough, decoded, holds, handedIn}
 use Rattle.paper.specs.Computed.Rules.{formed}

@@ -36,7 +36,8 @@ used-beyond t n =
     tables-is t _ _ _ _ _ (take-append-drop (n .bytes) (t .names)) (take-append-drop (4 * n .categories) (t .categories))
     (take-append-drop (6 * n .definitions) (t .definitions)) (take-append-drop (8 * n .ranges) (t .ranges)) (take-append-drop (2 * n .references) (t .references))
 
-stands-handed : (t : Tables) (n : Counts) (r : Reading) → HoldTogether t n r → handedIn t n ≡ some r
+-- tables in which a reading stands are handed in as it
+pub stands-handed : (t : Tables) (n : Counts) (r : Reading) → HoldTogether t n r → handedIn t n ≡ some r
 stands-handed t n r h =
     ap₂ handedIn (sym (used-beyond t n) ∙ ap (λ l. behind l (beyond n t)) (sym (h .laid-out))) (sym (h .counted))
     ∙ handed-in r (beyond n t) (h .rules)

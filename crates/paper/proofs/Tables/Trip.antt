@@ -17,17 +17,17 @@ use Rattle.paper.specs.Numbers.Bytes.{le, value, isByte}
 use Rattle.paper.specs.CharDef.Reading.{Definition, Range, Reading, Within, nameBytes, references}
 use Rattle.paper.specs.Pack.Fields.{flag}
 use Rattle.paper.specs.Pack.Rules.{isBound, once, numbered, PackRules}
+use Rattle.paper.specs.Pack.Rules as rule
 use Rattle.paper.specs.Tables.HandedIn.{HoldTogether}
 use Rattle.paper.specs.Tables.Layout.{pieces, NameSlot, RangeSlot, nameSlotBytes, definitionBytes, slotBytes, nameSlotOf, definitionOf, slotOf, nameSlots, rangeSlots, split, ranging, Tables, countsOf, numbersOf, layout, used, behind}
 use Rattle.paper.specs.Tables.Lent.{num}
 use Rattle.paper.specs.Computed.HandedIn.{enough, nameSlotsStand, slotsStand, flagged, nameSlotsIn, namesIn, slotsIn, numbersIn, decoded, holds, handedIn}
 use Rattle.paper.specs.Computed.Rules.{formed}
 use Rattle.paper.specs.declared.Counts.{Counts}
-use Rattle.paper.specs.Pack.Rules as rule
 use Rattle.paper.proofs.Lists.Facts.{all-append, all-left, all-right, joined-length}
+use Rattle.paper.proofs.Lists.Facts.{T→true, true→T}
 use Rattle.paper.proofs.Pack.Rules.{each-all, all-each, formed-is, is-formed}
 use Rattle.paper.proofs.Pack.Trip.{bound-bits}
-use Rattle.paper.proofs.Lists.Facts.{T→true, true→T}
 use Rattle.paper.proofs.Tables.Laws.{whole, field-back, pieces-table, table-length, pieces-length, joined-pieces, pieces-whole, all-take, all-drop, short, value-small, map-back, value-le}
 
 -- the tests with their numbers written out

@@ -21,8 +21,8 @@ use Rattle.paper.specs.Unk.Bad.{UnderFour, Unreadable, NoU32, NoI32, Bad
 use Rattle.paper.specs.Computed.Numeral.{numeral, signedNumeral}
 use Rattle.paper.specs.Computed.ReadUnk.{UnkFound, entry, no-entry, fromUnkNumbers, fromFields, unkLineOf, Entries, entries-are, stops, consEntry, orFull, enterUnk, readEntries}
 use Rattle.paper.proofs.Apart.{stops-entries}
-use Rattle.paper.proofs.CharDef.Sound.{cut-pieces}
-use Rattle.paper.proofs.CharDef.Complete.{le10}
+use Rattle.paper.proofs.Lists.Pieces.{cut-pieces}
+use Rattle.paper.proofs.Numbers.Read.{decimal-small}
 use Rattle.paper.proofs.Numbers.Laws.{unsigned-none, signed-none}
 use Rattle.paper.proofs.Unk.Lines.{cut-joinWith, pieces-joinWith}
 use Rattle.paper.proofs.Unk.Line.{no-entry-entry, unk-line}
@@ -44,9 +44,9 @@ numbers-bad cs a b c d ds before n w p x ex y ey z ez h = go x ex y ey z ez h
 
     go : (x : Option ℕ) → numeral decimal maxU32 b ≡ x → (y : Option ℕ) → numeral decimal maxU32 c ≡ y
         → (z : Option Integer) → signedNumeral decimal maxI32 lowI32 d ≡ z → fromUnkNumbers a x y z ds ≡ no-entry n → BadUnkLine before cs n
-    go none ex y ey z ez h = bad (inl (unsigned-none decimal maxU32 le10 b .0 ex)) h
-    go (some l) ex none ey z ez h = bad (inr (inl (unsigned-none decimal maxU32 le10 c .0 ey))) h
-    go (some l) ex (some r) ey none ez h = bad (inr (inr (signed-none decimal maxI32 lowI32 le10 d .0 ez))) h
+    go none ex y ey z ez h = bad (inl (unsigned-none decimal maxU32 decimal-small b .0 ex)) h
+    go (some l) ex none ey z ez h = bad (inr (inl (unsigned-none decimal maxU32 decimal-small c .0 ey))) h
+    go (some l) ex (some r) ey none ez h = bad (inr (inr (signed-none decimal maxI32 lowI32 decimal-small d .0 ez))) h
     go (some l) ex (some r) ey (some i) ez h = no-entry-entry (sym h)
 
 no-entry-bad : (cs : List ℕ) (before n : ℕ) → unkLineOf cs ≡ no-entry n → BadUnkLine before cs n
@@ -109,9 +109,9 @@ unreadable-read cs u =
     z = signedNumeral decimal maxI32 lowI32 (u .cost)
 
     go : NoU32 (u .left) ⊎ (NoU32 (u .right) ⊎ NoI32 (u .cost)) → fromUnkNumbers (u .category) x y z (u .more) ≡ no-entry unkNumber
-    go (inl never) = ap (λ o. fromUnkNumbers (u .category) o y z (u .more)) (unsigned-none decimal maxU32 le10 (u .left) .1 never) ∙ left-none y z
-    go (inr (inl never)) = ap (λ o. fromUnkNumbers (u .category) x o z (u .more)) (unsigned-none decimal maxU32 le10 (u .right) .1 never) ∙ right-none x z
-    go (inr (inr never)) = ap (λ o. fromUnkNumbers (u .category) x y o (u .more)) (signed-none decimal maxI32 lowI32 le10 (u .cost) .1 never) ∙ cost-none x y
+    go (inl never) = ap (λ o. fromUnkNumbers (u .category) o y z (u .more)) (unsigned-none decimal maxU32 decimal-small (u .left) .1 never) ∙ left-none y z
+    go (inr (inl never)) = ap (λ o. fromUnkNumbers (u .category) x o z (u .more)) (unsigned-none decimal maxU32 decimal-small (u .right) .1 never) ∙ right-none x z
+    go (inr (inr never)) = ap (λ o. fromUnkNumbers (u .category) x y o (u .more)) (signed-none decimal maxI32 lowI32 decimal-small (u .cost) .1 never) ∙ cost-none x y
 
 -- ---- a line behind others
 

@@ -14,6 +14,9 @@ use Rattle.paper.specs.Text.Scalar.{between, plusSign, minusSign, digit0
 abbrev pub decimal : ℕ
 decimal = 10
 
+abbrev pub hexadecimal : ℕ
+hexadecimal = 16
+
 abbrev pub digit9 : ℕ
 digit9 = 0x39
 
