@@ -20,7 +20,7 @@ use Rattle.paper.specs.CharDef.Reading.{Reading}
 use Rattle.paper.specs.Rows.Covering.{boundaries, categoriesAt, rows}
 use Rattle.paper.specs.Rows.Flat.{RowFound, entryOffset, entryLength, offsetOf, flatEntry, entryPart, shortRows, flatPool}
 use Rattle.paper.specs.Rows.Build.{offsets}
-use Rattle.paper.specs.Rows.Lookup.{Looked, gives, LookupTables, Part, content, usesFlat, flatPart, rowPart, indexOdd, fromZero, rowMissing, pastPool, apart, Looks, packedAt, Begins, RowsLeft, FlatLeft, AsBuilt, without-flat, with-flat}
+use Rattle.paper.specs.Rows.Lookup.{Looked, gives, LookupTables, Part, content, usesFlat, flatPart, rowPart, indexOdd, fromZero, rowMissing, pastPool, apart, Looks, packedAt, Begins, RowsLeft, FlatLeft, AsBuilt, without-flat, with-flat, GivesPart}
 use Rattle.paper.proofs.Lists.Facts.{T→true, true→T, joined-length}
 use Rattle.paper.proofs.Lists.Parts.{take-part}
 use Rattle.paper.proofs.Rows.Boundaries.{row-for-each}
@@ -126,12 +126,6 @@ module _ (r : Reading) (t : LookupTables) (left : FlatLeft r t) (c : ℕ) (low :
 
 -- ---- the answer
 
--- a part is given, and it holds l
-pub record Holds (t : LookupTables) (l : List ℕ) (a : Looked Part) : Type 0 where
-  pub part : Part
-  pub given : a ≡ gives part
-  pub holds : content t part ≡ l
-
 rows-together : (o u q f m p : Bool) → o ≡ false → u ≡ false → f ≡ true → m ≡ false → p ≡ false → (o || cond u q (not f || m || p)) ≡ false
 rows-together o u q f m p eo eu ef em ep = rw (eo, eu, ef, em, ep)
 
@@ -139,7 +133,7 @@ flat-together : (o u q x : Bool) → o ≡ false → u ≡ true → q ≡ false 
 flat-together o u q x eo eu eq = rw (eo, eu, eq)
 
 module _ (r : Reading) (t : LookupTables) (c : ℕ) (s : IsScalar c) where
-  by-rows : (a : Looked Part) → RowsLeft r t → indexOdd t ≡ false → usesFlat t c ≡ false → Looks t c a → Holds t (categoriesAt r c) a
+  by-rows : (a : Looked Part) → RowsLeft r t → indexOdd t ≡ false → usesFlat t c ≡ false → Looks t c a → GivesPart t (categoriesAt r c) a
   unfolding apart
   by-rows a left o u l =
       let z : fromZero (t .boundaries) ≡ true = begins-zero r t left in
@@ -152,7 +146,7 @@ module _ (r : Reading) (t : LookupTables) (c : ℕ) (s : IsScalar c) where
         holds = row-content r t left c (l .row) f;
       }
 
-  by-flat : (a : Looked Part) → FlatLeft r t → c < bmpSize → indexOdd t ≡ false → usesFlat t c ≡ true → Looks t c a → Holds t (categoriesAt r c) a
+  by-flat : (a : Looked Part) → FlatLeft r t → c < bmpSize → indexOdd t ≡ false → usesFlat t c ≡ true → Looks t c a → GivesPart t (categoriesAt r c) a
   unfolding apart
   by-flat a left low o u l =
       let e : apart t c (l .row) ≡ false = flat-together (indexOdd t) (usesFlat t c) _ _ o u (flat-in-pool r t left c low) in
@@ -188,7 +182,7 @@ module _ (r : Reading) (t : LookupTables) (left : FlatLeft r t) where
       let h : c < length (t .index) = omega (arith, entries) in
       rw (T→true (isScalar c) s, lt-ltb c bmpSize low, index-some, lt-ltb c (length (t .index)) h, entry-is r t left c low)
 
-pub looked-up : (r : Reading) (t : LookupTables) (c : ℕ) (a : Looked Part) → AsBuilt r t → IsScalar c → Looks t c a → Holds t (categoriesAt r c) a
+pub looked-up : (r : Reading) (t : LookupTables) (c : ℕ) (a : Looked Part) → AsBuilt r t → IsScalar c → Looks t c a → GivesPart t (categoriesAt r c) a
 unfolding indexOdd usesFlat
 looked-up r t c a (without-flat left e) s l = by-rows r t c s a left (rw e) (rw e (and-false (ltb c bmpSize))) l
   where
@@ -201,6 +195,6 @@ looked-up r t c a (with-flat left flat) s l = go (ltb c bmpSize) refl
     uses true e = rw (e, index-some r t flat)
     uses false e = rw e
 
-    go : (b : Bool) → ltb c bmpSize ≡ b → Holds t (categoriesAt r c) a
+    go : (b : Bool) → ltb c bmpSize ≡ b → GivesPart t (categoriesAt r c) a
     go true e = by-flat r t c s a flat (ltb-true c bmpSize e) (index-even r t flat) (uses true e) l
     go false e = by-rows r t c s a left (index-even r t flat) (uses false e) l

@@ -4,7 +4,7 @@
 use Prim.Native.Nat.{ℕ, suc, _+_}
 use mathlib.Core.Path.{_≡_, refl, sym, ap, ap₂, _∙_}
 use mathlib.Core.Bool.{Bool, true, false, not, _&&_, _||_}
-use mathlib.Core.List.{List, [], _∷_, map}
+use mathlib.Core.List.{List, [], _∷_}
 use mathlib.Core.Option.{some}
 use lib.Dec.{leb, ltb}
 use lib.ListN.{length, length-map}
@@ -12,9 +12,9 @@ use borrow.Author.Tests.{leb-true, leb-false, lt-ltb, le-ltb}
 use Rattle.paper.specs.Sizes.{maxRows, maxRowPlaces, maxPackBytes, maxFlatRow, bmpSize}
 use Rattle.paper.specs.Lists.{all, any}
 use Rattle.paper.specs.CharDef.Reading.{Reading}
-use Rattle.paper.specs.Rows.Covering.{boundaries, rows}
-use Rattle.paper.specs.Rows.Flat.{shortRows, flatIndex, flatPool}
-use Rattle.paper.specs.Rows.Build.{rowsNeeded, placesNeeded, rowOverlong, built, rowsBuilt, flatBuilt, packWritten, offsets}
+use Rattle.paper.specs.Rows.Covering.{rows}
+use Rattle.paper.specs.Rows.Flat.{shortRows, flatPool}
+use Rattle.paper.specs.Rows.Build.{rowsNeeded, placesNeeded, rowOverlong, built, rowsBuilt, flatBuilt, packWritten, offsets, ExactNeeds}
 use Rattle.paper.specs.Pack.Rules.{PackRules}
 use Rattle.paper.proofs.Lists.Facts.{joined-length}
 use Rattle.paper.proofs.Rows.Boundaries.{row-for-each}
@@ -48,14 +48,7 @@ offsets-length at [] = refl
 offsets-length at (w ∷ ws) = ap suc (offsets-length (at + length w) ws)
 
 -- the exact needs are the lengths of what is filled
-pub record Exact (r : Reading) : Type 0 where
-  pub of-boundaries : rowsNeeded r ≡ length (boundaries r)
-  pub of-starts : rowsNeeded r ≡ length (offsets 0 (rows r))
-  pub of-lengths : rowsNeeded r ≡ length (map length (rows r))
-  pub of-pool : placesNeeded r ≡ length (flatPool r)
-  pub of-index : bmpSize ≡ length (flatIndex r)
-
-pub exact : (r : Reading) → Exact r
+pub exact : (r : Reading) → ExactNeeds r
 unfolding rowsNeeded placesNeeded flatPool
 exact r =
     record {

@@ -17,7 +17,7 @@ use Rattle.paper.specs.Refusals.{numberUnknown}
 use Rattle.paper.specs.Lists.{all, any}
 use Rattle.paper.specs.CharDef.Reading.{Reading}
 use Rattle.paper.specs.Rows.Lookup.{gives, refuses}
-use Rattle.paper.specs.Rows.Numbers.{slotWidth, definitionWidth, nameSlotsOf, nameIn, pastStore, lowest, findName, numberOf, definitionAt, nameAt, entryAt, lookupDefinition, categoryName, nameOf}
+use Rattle.paper.specs.Rows.Numbers.{slotWidth, definitionWidth, nameSlotsOf, nameIn, pastStore, lowestNamed, findName, numberOf, definitionAt, nameAt, entryAt, lookupDefinition, categoryName, nameOf}
 use Rattle.paper.specs.Pack.Rules.{once}
 use Rattle.paper.specs.Tables.Layout.{NameSlot, Tables, pieces, nameSlotOf, definitionOf, split}
 use Rattle.paper.specs.Computed.HandedIn.{nameSlotsStand, slotsStand, flagged, nameSlotsIn, namesIn, slotsIn, numbersIn, enough, decoded, holds, handedIn}
@@ -119,11 +119,11 @@ module _ (t : Tables) (n : Counts) (r : Reading) (e : handedIn t n ≡ some r) w
   names-cut = cut .0 ∙ ap (λ s. s .names) (h .is)
 
   -- the lowest number with that name in the reading, or absent
-  pub name-found : (name : List ℕ) → findName (t .names) (t .categories) (n .categories) name ≡ gives (lowest name (r .names))
+  pub name-found : (name : List ℕ) → findName (t .names) (t .categories) (n .categories) name ≡ gives (lowestNamed name (r .names))
   unfolding findName
   name-found name =
       rw (le-ltb (length (t .categories)) (slotWidth * n .categories) (h .long .for-categories), cut .1)
-      (ap (λ ns. gives (lowest name ns)) names-cut)
+      (ap (λ ns. gives (lowestNamed name ns)) names-cut)
 
   -- each name's own number
   pub name-back : (k : ℕ) → k < length (r .names) → findName (t .names) (t .categories) (n .categories) (getD (r .names) k []) ≡ gives (some k)

@@ -1,5 +1,5 @@
 -- What a reader leaves in lent room: the layout, and zero bytes up to the sizes. Assumes nothing.
-use Prim.Native.Nat.{ℕ, _*_, _-_, _≤_}
+use Prim.Native.Nat.{ℕ, _*_, _-_}
 use native.Mathlib.Omega.{arith}
 use mathlib.Core.Path.{_≡_, refl, ap, _∙_}
 use mathlib.Core.List.{List, _++_, map}
@@ -9,7 +9,7 @@ use Rattle.paper.specs.Sizes.{maxCategories, maxNameBytes, maxCategoryLi
 use Rattle.paper.specs.Numbers.Bytes.{le}
 use Rattle.paper.specs.CharDef.Reading.{Reading, Within, nameBytes, references}
 use Rattle.paper.specs.Pack.Rules.{PackRules}
-use Rattle.paper.specs.Tables.Layout.{Tables, layout, behind, nameSlots, rangeSlots, nameSlotBytes, definitionBytes, slotBytes, numbersOf, countsOf, inRoom}
+use Rattle.paper.specs.Tables.Layout.{Tables, layout, behind, nameSlots, rangeSlots, nameSlotBytes, definitionBytes, slotBytes, numbersOf, countsOf, inRoom, FitsRoom}
 use Rattle.paper.specs.Tables.Lent.{padded}
 use Rattle.paper.specs.Computed.HandedIn.{handedIn}
 use Rattle.paper.proofs.Lists.Facts.{joined-length}
@@ -44,14 +44,7 @@ pub handed-room : (r : Reading) → PackRules r → handedIn (inRoom (layout r))
 handed-room r ok = ap (λ t. handedIn t (countsOf r)) (room-is (layout r)) ∙ handed-in r (zerosBehind (layout r)) ok
 
 -- the layout fits
-pub record Roomy (t : Tables) : Type 0 where
-  pub names : length (t .names) ≤ maxNameBytes
-  pub categories : length (t .categories) ≤ 4 * maxCategories
-  pub definitions : length (t .definitions) ≤ 6 * maxCategoryLines
-  pub ranges : length (t .ranges) ≤ 8 * maxRanges
-  pub references : length (t .references) ≤ 2 * maxReferences
-
-pub layout-fits : (r : Reading) → Within r → Roomy (layout r)
+pub layout-fits : (r : Reading) → Within r → FitsRoom (layout r)
 unfolding layout nameBytes
 layout-fits r w =
     let a = joined-length (r .names) in

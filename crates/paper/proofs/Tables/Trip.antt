@@ -18,7 +18,7 @@ use Rattle.paper.specs.CharDef.Reading.{Definition, Range, Reading, With
 use Rattle.paper.specs.Pack.Fields.{flag}
 use Rattle.paper.specs.Pack.Rules.{isBound, once, numbered, PackRules}
 use Rattle.paper.specs.Pack.Rules as rule
-use Rattle.paper.specs.Tables.HandedIn.{HoldTogether}
+use Rattle.paper.specs.Tables.HandedIn.{HoldTogether, OfBytes}
 use Rattle.paper.specs.Tables.Layout.{pieces, NameSlot, RangeSlot, nameSlotBytes, definitionBytes, slotBytes, nameSlotOf, definitionOf, slotOf, nameSlots, rangeSlots, split, ranging, Tables, countsOf, numbersOf, layout, used, behind}
 use Rattle.paper.specs.Tables.Lent.{num}
 use Rattle.paper.specs.Computed.HandedIn.{enough, nameSlotsStand, slotsStand, flagged, nameSlotsIn, namesIn, slotsIn, numbersIn, decoded, holds, handedIn}
@@ -493,12 +493,6 @@ handed-in r x k = let ok = keeps r k in rw (holds-in r x ok, names-in r x ok, de
 
 -- ---- tables that are handed in are the layout of their reading
 
-pub record Bytes (t : Tables) : Type 0 where
-  pub in-categories : T (all isByte (t .categories))
-  pub in-definitions : T (all isByte (t .definitions))
-  pub in-ranges : T (all isByte (t .ranges))
-  pub in-references : T (all isByte (t .references))
-
 pub record Enough (names categories definitions ranges references : ℕ) (n : Counts) : Type 0 where
   pub limits : (n .categories ≤ maxCategories) × ((n .bytes ≤ maxNameBytes) × ((n .definitions ≤ maxCategoryLines) × ((n .ranges ≤ maxRanges) × (n .references ≤ maxReferences))))
   pub for-names : n .bytes ≤ names
@@ -598,7 +592,7 @@ lengths-small (suc n) l t =
     (is-lt (value (take 4 (take 6 l))) (maxU32 + 1) (value-small 4 (take 4 (take 6 l)) (all-take isByte 4 (take 6 l) (all-take isByte 6 l t)) (short 4 (take 6 l))))
     (lengths-small n (drop 6 l) (all-drop isByte 6 l t))
 
-module _ (t : Tables) (n : Counts) (b : Bytes t) (h : Parts t n) where
+module _ (t : Tables) (n : Counts) (b : OfBytes t) (h : Parts t n) where
   names-lens : map length (namesIn t n) ≡ map (λ p. p .len) (nameSlotsIn t n)
   unfolding namesIn
   names-lens =
@@ -709,18 +703,18 @@ pub tables-is : (t : Tables) (a b c d e : List ℕ) → a ≡ t .names → b ≡
     → _≡_ {A = Tables} (record { names = a; categories = b; definitions = c; ranges = d; references = e }) t
 tables-is t a b c d e f g h i j = rw (f, g, h, i, j)
 
-laid : (t : Tables) (n : Counts) → Bytes t → Parts t n → layout (decoded t n) ≡ used n t
+laid : (t : Tables) (n : Counts) → OfBytes t → Parts t n → layout (decoded t n) ≡ used n t
 unfolding layout decoded used
 laid t n b h =
     tables-is (used n t) _ _ _ _ _ (used-names t n b h) (used-categories t n b h) (used-definitions t n b h) (used-ranges t n b h) (used-references t n b h)
 
 -- what is handed in
-pub handed-holds : (t : Tables) (n : Counts) → Bytes t → T (holds t n) → HoldTogether t n (decoded t n)
+pub handed-holds : (t : Tables) (n : Counts) → OfBytes t → T (holds t n) → HoldTogether t n (decoded t n)
 handed-holds t n b u =
     let h = parts t n u in
     record { laid-out = laid t n b h; counted = counts-are t n b h; rules = kept (decoded t n) (rules-kept t n b h) }
 
-pub handed-back : (t : Tables) (n : Counts) (r : Reading) → Bytes t → handedIn t n ≡ some r → HoldTogether t n r
+pub handed-back : (t : Tables) (n : Counts) (r : Reading) → OfBytes t → handedIn t n ≡ some r → HoldTogether t n r
 unfolding handedIn
 handed-back t n r b e = go (holds t n) refl e
   where

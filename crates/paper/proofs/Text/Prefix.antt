@@ -11,7 +11,7 @@ use mathlib.Core.List.{List, [], _∷_, _++_}
 use lib.ListN.{length, take, drop, take-append-drop, length-take}
 use lib.Seq.{drop-nil, take-take, take-all, take-length}
 use Rattle.paper.specs.Text.Scalar.{WellFormed, nothing, LongestPrefix}
-use Rattle.paper.specs.Computed.Decode.{First, bad, good, first, Text, broken, chars, consText, onward, decodeFrom, decode}
+use Rattle.paper.specs.Computed.Decode.{First, bad, good, first, Text, broken, chars, consText, onward, decodeFrom, decode, prefixOf}
 use Rattle.paper.proofs.Apart.{broken-chars}
 pub use Rattle.paper.proofs.Text.Shapes.{Starts, started, Shaped, first-shapes}
 
@@ -98,11 +98,6 @@ broken-inside (a ∷ s) at zero p h = go (first a s) h (λ extra. broken-inside 
     go (good c extra) h ih = let k = ih extra (unbroken c (decodeFrom (suc at) extra s) p h) in omega arith
 
 -- ---- the longest well-formed prefix
-
--- the length of the longest well-formed prefix, by the decoder
-abbrev pub prefixOf : Text → ℕ → ℕ
-prefixOf (broken p) n = p
-prefixOf (chars cs) n = n
 
 module _ (s : List ℕ) (r : ℕ) (inside : r ≤ length s) (formed : WellFormed (take r s))
     (longest : (k : ℕ) → r < k → k ≤ length s → WellFormed (take k s) → ⊥) where

@@ -4,6 +4,7 @@ use Prim.Native.Nat.{ℕ, _+_}
 use mathlib.Core.Bool.{Bool, cond, _||_}
 use mathlib.Core.List.{List, [], _∷_, map}
 use mathlib.Core.Option.{Option, none, some}
+use mathlib.Core.Path.{_≡_}
 use lib.Dec.{ltb}
 use lib.ListN.{length}
 use Rattle.paper.specs.Sizes.{maxFlatRow, bmpSize}
@@ -11,6 +12,7 @@ use Rattle.paper.specs.Refusals.{flatRowLong, tableRoomShort, packRoomSh
 use Rattle.paper.specs.Lists.{any, sum}
 use Rattle.paper.specs.CharDef.Reading.{Reading}
 use Rattle.paper.specs.Rows.Covering.{boundaries, rows}
+use Rattle.paper.specs.Rows.Flat.{flatIndex, flatPool}
 use Rattle.paper.specs.Pack.Fields.{packBytes}
 
 -- ---- the exact needs
@@ -71,3 +73,11 @@ packWritten (some r) n = cond (writeRoomShort r n) (refusedBy packRoomShort) bui
 unfoldable pub offsets : ℕ → List (List ℕ) → List ℕ
 offsets at [] = []
 offsets at (w ∷ ws) = at ∷ offsets (at + length w) ws
+
+-- the exact needs are the lengths of what is filled
+pub record ExactNeeds (r : Reading) : Type 0 where
+  pub of-boundaries : rowsNeeded r ≡ length (boundaries r)
+  pub of-starts : rowsNeeded r ≡ length (offsets 0 (rows r))
+  pub of-lengths : rowsNeeded r ≡ length (map length (rows r))
+  pub of-pool : placesNeeded r ≡ length (flatPool r)
+  pub of-index : bmpSize ≡ length (flatIndex r)

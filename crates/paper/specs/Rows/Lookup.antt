@@ -94,6 +94,11 @@ pub record Looks (t : LookupTables) (c : ℕ) (a : Looked Part) : Type 0 where
   pub found : T (fromZero (t .boundaries)) → RowFound (t .boundaries) c row
   pub answer : a ≡ lookup t c row
 
+-- a part is given, and it holds l
+pub record GivesPart (t : LookupTables) (l : List ℕ) (a : Looked Part) : Type 0 where
+  pub part : Part
+  pub given : a ≡ gives part
+  pub holds : content t part ≡ l
 -- ---- the packed lookup: "beyond the BMP or with an empty index .. absent and not refused"
 
 unfoldable pub packedAt : List ℕ → ℕ → Looked (Option ℕ)

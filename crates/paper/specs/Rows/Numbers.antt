@@ -1,11 +1,12 @@
 -- Finding a name, a category's name and a definition by number, over any tables: "14 or 15, then 26". A refusal's place is 0.
 -- Assumes nothing.
-use Prim.Native.Nat.{ℕ, zero, suc, _+_, _*_}
+use Prim.Native.Nat.{ℕ, zero, suc, _+_, _*_, _<_}
 use mathlib.Core.Bool.{Bool, cond, _||_}
 use mathlib.Core.List.{List, [], _∷_, map}
 use mathlib.Core.Option.{Option, none, some}
+use mathlib.Core.Path.{_≡_}
 use lib.Dec.{leb, ltb}
-use lib.ListN.{length, take, drop}
+use lib.ListN.{length, take, drop, getD}
 use Rattle.paper.specs.Refusals.{numberUnknown, tablesApart}
 use Rattle.paper.specs.Lists.{any, positionOf, same}
 use Rattle.paper.specs.CharDef.Reading.{Definition, Reading}
@@ -31,15 +32,22 @@ nameIn store p = take (p .len) (drop (p .start) store)
 abbrev pub pastStore : List ℕ → NameSlot → Bool
 pastStore store p = ltb (length store) (p .start + p .len)
 
-unfoldable pub lowest : List ℕ → List (List ℕ) → Option ℕ
-lowest name names = cond (any (same name) names) (some (positionOf same name names)) none
+-- k is the lowest number with that name
+pub record LowestNamed (name : List ℕ) (names : List (List ℕ)) (k : ℕ) : Type 0 where
+  pub inside : k < length names
+  pub there : getD names k [] ≡ name
+  pub not-before : (j : ℕ) → j < k → getD names j [] ≡ name → ⊥
+
+-- it computed, if there is one: `Rows.Lowest` of the proofs shows that it is
+unfoldable pub lowestNamed : List ℕ → List (List ℕ) → Option ℕ
+lowestNamed name names = cond (any (same name) names) (some (positionOf same name names)) none
 
 -- "26 exactly when the category table is shorter than its count or some category's name runs past the name store"
 unfoldable pub findName : (store table : List ℕ) → ℕ → List ℕ → Looked (Option ℕ)
-unfolding lowest pieces num
+unfolding lowestNamed pieces num
 findName store table count name =
     cond (ltb (length table) (slotWidth * count) || any (pastStore store) (nameSlotsOf table count)) (refuses tablesApart)
-    (gives (lowest name (map (nameIn store) (nameSlotsOf table count))))
+    (gives (lowestNamed name (map (nameIn store) (nameSlotsOf table count))))
 
 -- ---- by number: 15, then 26 "exactly when what they would answer runs past its table"
 

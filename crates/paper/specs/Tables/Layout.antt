@@ -1,7 +1,7 @@
 -- A reading's tables as bytes, DESIGN.md section 6: entries one behind another, numbers with the least byte first; "names and references
 -- stand in their stores one behind another from 0, in order".
 -- Assumes nothing.
-use Prim.Native.Nat.{ℕ, zero, suc, _+_, _*_}
+use Prim.Native.Nat.{ℕ, zero, suc, _+_, _*_, _≤_}
 use mathlib.Core.List.{List, [], _∷_, _++_, map}
 use lib.Dec.{eqb}
 use lib.ListN.{length, take, drop, getD}
@@ -141,3 +141,11 @@ inRoom t =
       ranges = padded (8 * maxRanges) (t .ranges);
       references = padded (2 * maxReferences) (t .references);
     }
+
+-- tables that the room is enough for
+pub record FitsRoom (t : Tables) : Type 0 where
+  pub names : length (t .names) ≤ maxNameBytes
+  pub categories : length (t .categories) ≤ 4 * maxCategories
+  pub definitions : length (t .definitions) ≤ 6 * maxCategoryLines
+  pub ranges : length (t .ranges) ≤ 8 * maxRanges
+  pub references : length (t .references) ≤ 2 * maxReferences
