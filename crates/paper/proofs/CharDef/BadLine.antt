@@ -10,14 +10,14 @@ use mathlib.Core.Option.{Option, none, some}
 use mathlib.Core.List.{List, [], _∷_, _++_}
 use lib.Dec.{T}
 use lib.ListN.{length}
-use Rattle.paper.specs.Sizes.{maxU32, maxCategoryLines, maxRanges}
+use Rattle.paper.specs.Sizes.{maxU32, maxCategoryLines, maxRanges, lineFields}
 use Rattle.paper.specs.Refusals.{rangeParts, boundUnreadable, boundMark, categoryFields, categoryNumber, rangesFull, categoryLinesFull, categoriesFull, nameBytesFull}
 use Rattle.paper.specs.Lists.{words, empty}
 use Rattle.paper.specs.Text.Scalar.{isWhite, isSep, dot}
-use Rattle.paper.specs.Numbers.Numeral.{decimal}
+use Rattle.paper.specs.Numbers.Numeral.{decimal, NoU32}
 use Rattle.paper.specs.CharDef.Line.{Line, LineFits, begins0x}
 use Rattle.paper.specs.CharDef.Reading.{Reading, readingOf, Within, EachFits, done, next, refused}
-use Rattle.paper.specs.CharDef.BadLine.{Body, Fields, last-field, more-fields, RangeFields, CategoryFields, Parts, one-part, two-parts, NoU32, neededFields, Misfit, many-parts, lower-bad, upper-bad, not-four, no-number, BadBound, no-hex, mark, swapped, NoRoom, too-many, too-long, PastLimit, range-over, references-over, range-name, line-over, category-name, BadLine, misfit, past-limit}
+use Rattle.paper.specs.CharDef.BadLine.{Body, Fields, last-field, more-fields, RangeFields, CategoryFields, Parts, one-part, two-parts, Misfit, many-parts, lower-bad, upper-bad, not-four, no-number, BadBound, no-hex, mark, swapped, NoRoom, too-many, too-many-bytes, PastLimit, range-over, references-over, range-name, line-over, category-name, BadLine, misfit, past-limit}
 use Rattle.paper.specs.Computed.Numeral.{numeral}
 use Rattle.paper.specs.Computed.ReadText.{Found, found, wrong, BoundFound, parts, fromBounds, fromParts, rangeOf, fromNumbers, categoryOf, body, bodyLine, lineOf, Step, go-on, stop, enter, enterFound, verdict, readLines}
 use Rattle.paper.proofs.Apart.{zero-one, none-some, wrong-found, refused-accepted}
@@ -64,7 +64,7 @@ range-misfit {core = core} b z (more-fields {field = f} gap rest e a g q) n h =
 no-u32 : (f : List ℕ) → numeral decimal maxU32 f ≡ none → NoU32 f
 no-u32 f e n s = none-some (sym e ∙ numeral-read decimal maxU32 decimal-small s)
 
-count : {cs : List ℕ} (fields : List (List ℕ)) → CategoryFields cs fields → length fields ≢ neededFields → (n : ℕ) → wrong categoryFields ≡ wrong n → Misfit cs n
+count : {cs : List ℕ} (fields : List (List ℕ)) → CategoryFields cs fields → length fields ≢ lineFields → (n : ℕ) → wrong categoryFields ≡ wrong n → Misfit cs n
 count {cs} fields fs ne n h = let e : categoryFields ≡ n = cc in subst (Misfit cs) e (not-four fs ne)
 
 category-misfit : {cs : List ℕ} (fields : List (List ℕ)) → CategoryFields cs fields → (n : ℕ) → categoryOf fields ≡ wrong n → Misfit cs n
@@ -120,7 +120,7 @@ category-line {cs} {fields} fs = ap bodyLine (body-is cs (fs .body) (fs .isBody)
     not-empty {s = []} q = no-fields isSep q
     not-empty {s = c ∷ s} q = tt
 
-count-wrong : (fields : List (List ℕ)) → length fields ≢ neededFields → categoryOf fields ≡ wrong categoryFields
+count-wrong : (fields : List (List ℕ)) → length fields ≢ lineFields → categoryOf fields ≡ wrong categoryFields
 unfolding categoryOf
 count-wrong [] ne = refl
 count-wrong (a ∷ []) ne = refl
@@ -201,7 +201,7 @@ misfit-number (no-number fs u) = omega arith
 
 room-number : {known : List (List ℕ)} {x : List ℕ} {n : ℕ} → NoRoom known x n → (categoriesFull ≤ n) × (n ≤ nameBytesFull)
 room-number (too-many new h) = omega arith
-room-number (too-long new h i) = omega arith
+room-number (too-many-bytes new h i) = omega arith
 
 past-number : {r : Reading} {l : Line} {n : ℕ} → PastLimit r l n → (rangesFull ≤ n) × (n ≤ nameBytesFull)
 past-number (range-over h) = omega arith

@@ -11,7 +11,7 @@ use Rattle.paper.specs.Sizes.{maxU16, maxU32}
 use Rattle.paper.specs.Lists.{empty, all, full, nothingOr, words, until, trimStart, trimEnd}
 use Rattle.paper.specs.Text.Scalar.{isWhite, isSep, hash, plusSign, dot, digit0, letterX}
 use Rattle.paper.specs.Numbers.Numeral.{isDigit, plus, Numeral, decimal, hexadecimal, noDigit}
-use Rattle.paper.specs.CharDef.Line.{Line, blank, category, range, isHash, isNameChar, isFieldChar, comment, begins0x, beginsWhite, zeroXs, Bound, Bounds, one, two, Names, BlankLine, RangeLine, CategoryLine, LineFits}
+use Rattle.paper.specs.CharDef.Line.{Line, blank, category, range, isHash, isNameChar, isFieldChar, comment, begins0x, beginsWhite, zeroXs, Bound, Bounds, one-bound, two-bounds, Names, BlankLine, RangeLine, CategoryLine, LineFits}
 use Rattle.paper.specs.CharDef.Line as line
 use Rattle.paper.specs.Computed.Numeral.{numeral}
 use Rattle.paper.specs.Computed.ReadText.{found, BoundFound, strip0x, parts, boundOf, fromParts, rangeOf, categoryOf, body, bodyLine, lineOf}
@@ -140,15 +140,15 @@ no-dots {least} {cs} b =
 bounds-read : {cs : List ℕ} {lower upper : ℕ} (names : List (List ℕ)) → Bounds cs lower upper
     → fromParts (parts cs) names ≡ found (range lower upper names)
 unfolding fromParts
-bounds-read {cs} names (one b e) = rw (parts-one cs (no-dots b), bound-read b, e)
-bounds-read {cs} names (two l r w a b) =
+bounds-read {cs} names (one-bound b e) = rw (parts-one cs (no-dots b), bound-read b, e)
+bounds-read {cs} names (two-bounds l r w a b) =
     rw (w, parts-two l r (no-dots a), parts-one r (no-dots b), bound-read a, bound-read b)
 
 -- what holds of `0`, `x`, `+`, hex digits and `.` holds of the bounds' characters
 bounds-chars : (q : ℕ → Bool) → T (q digit0) → T (q letterX) → T (q plusSign) → T (q dot) → ((c : ℕ) → T (isDigit hexadecimal c) → T (q c))
     → {cs : List ℕ} {lower upper : ℕ} → Bounds cs lower upper → T (full q cs)
-bounds-chars q q0 qx q+ qd f (one b e) = bound-chars q q0 qx q+ f b
-bounds-chars q q0 qx q+ qd f (two l r w a b) =
+bounds-chars q q0 qx q+ qd f (one-bound b e) = bound-chars q q0 qx q+ f b
+bounds-chars q q0 qx q+ qd f (two-bounds l r w a b) =
     rw w
     (append-full q l (dot ∷ dot ∷ r) (full-all q l (bound-chars q q0 qx q+ f a))
     (yes-and (q dot) (q dot && all q r) qd (yes-and (q dot) (all q r) qd (full-all q r (bound-chars q q0 qx q+ f b)))))
@@ -162,8 +162,8 @@ bound-0x : {cs : List ℕ} {v : ℕ} (s : List ℕ) → Bound 1 cs v → begins0
 bound-0x s b = rw (b .whole, append-assoc) (zeroXs-0x (b .times) (b .numeral ++ s) (b .enough))
 
 bounds-0x : {cs : List ℕ} {lower upper : ℕ} (s : List ℕ) → Bounds cs lower upper → begins0x (cs ++ s) ≡ true
-bounds-0x s (one b e) = bound-0x s b
-bounds-0x s (two l r w a b) = rw (w, append-assoc) (bound-0x ((dot ∷ dot ∷ r) ++ s) a)
+bounds-0x s (one-bound b e) = bound-0x s b
+bounds-0x s (two-bounds l r w a b) = rw (w, append-assoc) (bound-0x ((dot ∷ dot ∷ r) ++ s) a)
 
 -- ---- names
 

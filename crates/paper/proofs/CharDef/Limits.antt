@@ -15,7 +15,7 @@ use Rattle.paper.specs.Lists.{any, same, freshAfter}
 use Rattle.paper.specs.Text.Scalar.{utf8}
 use Rattle.paper.specs.CharDef.Line.{Line, blank, category, range}
 use Rattle.paper.specs.CharDef.Reading.{Definition, Reading, namesOf, nameBytes, references}
-use Rattle.paper.specs.CharDef.BadLine.{NoRoom, too-many, too-long, knownWith, FirstOver, PastLimit, range-over, references-over, range-name, line-over, category-name}
+use Rattle.paper.specs.CharDef.BadLine.{NoRoom, too-many, too-many-bytes, knownWith, FirstOver, PastLimit, range-over, references-over, range-name, line-over, category-name}
 use Rattle.paper.specs.Computed.ReadText.{stop, Interned, names-are, full-at, internOne, afterOne, intern, addRange, addDefinition, enter}
 use Rattle.paper.proofs.Apart.{zero-one, full-names, stop-go}
 use Rattle.paper.proofs.Lists.Facts.{T→true, T→false, true→T, false→T, any-append}
@@ -74,11 +74,11 @@ data One (known : List (List ℕ)) (x : List ℕ) : Interned → Type 0 where
 
 known-room : (known : List (List ℕ)) (x : List ℕ) → any (same x) known ≡ true → (m : ℕ) → NoRoom known x m → ⊥
 known-room known x e m (too-many new h) = subst (λ b. T (not b)) e new
-known-room known x e m (too-long new h i) = subst (λ b. T (not b)) e new
+known-room known x e m (too-many-bytes new h i) = subst (λ b. T (not b)) e new
 
 new-room : (known : List (List ℕ)) (x : List ℕ) → length known < maxCategories → nameBytes known + length x ≤ maxNameBytes → (m : ℕ) → NoRoom known x m → ⊥
 new-room known x few short m (too-many new h) = omega arith
-new-room known x few short m (too-long new h i) = omega arith
+new-room known x few short m (too-many-bytes new h i) = omega arith
 
 one : (known : List (List ℕ)) (x : List ℕ) → One known x (internOne known x)
 unfolding internOne
@@ -91,7 +91,7 @@ one known x = go (any (same x) known) (leb maxCategories (length known)) (ltb ma
         subst (λ k. One known x (names-are k)) e (room (known-room known x ea))
     go false true c ea eb ec = over (too-many (false→T _ ea) (let h : maxCategories ≤ length known = leb-yes (true→T _ eb) in omega arith))
     go false false true ea eb ec =
-        over (too-long (false→T _ ea) (let h : length known < maxCategories = leb-no (false→T _ eb) in omega arith) (ltb-yes (true→T _ ec)))
+        over (too-many-bytes (false→T _ ea) (let h : length known < maxCategories = leb-no (false→T _ eb) in omega arith) (ltb-yes (true→T _ ec)))
     go false false false ea eb ec =
         let e : with known x ≡ known ++ (x ∷ []) = rw ea in
         subst (λ k. One known x (names-are k)) e (room (new-room known x (leb-no (false→T _ eb)) (ltb-no (false→T _ ec))))
@@ -101,7 +101,7 @@ unfolding internOne
 over-read {known} {x} (too-many new h) =
     let k : maxCategories ≤ length known = omega arith in
     rw (T→false (any (same x) known) new, T→true (leb maxCategories (length known)) (yes-leb k))
-over-read {known} {x} (too-long new h i) =
+over-read {known} {x} (too-many-bytes new h i) =
     let k : length known < maxCategories = omega arith in
     rw (T→false (any (same x) known) new, T→false (leb maxCategories (length known)) (no-leb k), T→true (ltb maxNameBytes (nameBytes known + length x)) (yes-ltb i))
 

@@ -14,7 +14,7 @@ use Rattle.paper.specs.Refusals.{boundMark}
 use Rattle.paper.specs.Lists.{all, full, nothingOr, push, words, until, trimStart, trimEnd}
 use Rattle.paper.specs.Text.Scalar.{isWhite, isSep, dot, digit0, letterX}
 use Rattle.paper.specs.Numbers.Numeral.{decimal, hexadecimal}
-use Rattle.paper.specs.CharDef.Line.{Line, blank, category, range, isHash, isNameChar, isFieldChar, comment, begins0x, beginsWhite, zeroXs, standsFor, Bound, Bounds, one, two, Names, LineFits}
+use Rattle.paper.specs.CharDef.Line.{Line, blank, category, range, isHash, isNameChar, isFieldChar, comment, begins0x, beginsWhite, zeroXs, standsFor, Bound, Bounds, one-bound, two-bounds, Names, LineFits}
 use Rattle.paper.specs.CharDef.Line as line
 use Rattle.paper.specs.Computed.Numeral.{numeral}
 use Rattle.paper.specs.Computed.ReadText.{found, BoundFound, noBound, strip0x, parts, checkedBound, boundOf, fromBounds, fromParts, rangeOf, fromNumbers, categoryOf, body, bodyLine, lineOf}
@@ -108,10 +108,10 @@ bounds-sound : (f : List ℕ) (names : List (List ℕ)) (l : Line) → T (begins
 unfolding fromParts
 bounds-sound f names l z lone h =
     let (lo, hi, x, y, e) = edges (boundOf f) (boundOf f) names l h in
-    (lo, hi, one (bound-sound 1 f lo x (λ k g. g z)) (cc), e)
+    (lo, hi, one-bound (bound-sound 1 f lo x (λ k g. g z)) (cc), e)
 bounds-sound f names l z (dots {l = a} r w lone) h =
     let (lo, hi, x, y, e) = edges (boundOf a) (boundOf r) names l h in
-    (lo, hi, two a r w (bound-sound 1 a lo x (λ k g. g (dots-0x a r (subst (λ s. T (begins0x s)) w z)))) (bound-sound 0 r hi y (λ k g. zero-le)), e)
+    (lo, hi, two-bounds a r w (bound-sound 1 a lo x (λ k g. g (dots-0x a r (subst (λ s. T (begins0x s)) w z)))) (bound-sound 0 r hi y (λ k g. zero-le)), e)
 bounds-sound f names l z (dots r w (dots s v lone)) h = wrong-found h
 bounds-sound f names l z (dots r w (dots s v (dots t u d))) h = wrong-found h
 

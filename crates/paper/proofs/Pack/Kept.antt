@@ -11,7 +11,7 @@ use mir.Facts.{and-yes, yes-and, T-not, not-T, yes-leb, yes-ltb}
 use Rattle.paper.specs.Sizes.{maxU32}
 use Rattle.paper.specs.Lists.{all, full, any, joined, freshAfter, firstSeen, same}
 use Rattle.paper.specs.Text.Scalar.{lf, between, isScalar, utf8Of, utf8, WellFormed}
-use Rattle.paper.specs.CharDef.Line.{Line, blank, category, range, standsFor, Bound, Bounds, one, two, Names, no-names, more-names, isNameChar, isFieldChar, LineFits}
+use Rattle.paper.specs.CharDef.Line.{Line, blank, category, range, standsFor, Bound, Bounds, one-bound, two-bounds, Names, no-names, more-names, isNameChar, isFieldChar, LineFits}
 use Rattle.paper.specs.CharDef.Reading.{Reading, namesOf, definitionsOf, rangesOf, readingOf, Within, joinLF, EachFits, done, next, Fits, accepted}
 use Rattle.paper.specs.Pack.Fields.{packBytes}
 use Rattle.paper.specs.Pack.Rules.{hasBytes, onceAfter, isBound, bounded, sized, PackRules}
@@ -139,8 +139,8 @@ bound-good : {least : ℕ} {cs : List ℕ} {b : ℕ} → Bound least cs b → T 
 bound-good f = subst (λ b. T (isBound b)) (sym (f .says)) (stands-bound (f .code) (f .number .fits) (f .noMark) (f .noSwap))
 
 bounds-good : {cs : List ℕ} {lower upper : ℕ} → Bounds cs lower upper → T (isBound lower) × T (isBound upper)
-bounds-good (one f e) = (bound-good f, subst (λ b. T (isBound b)) (sym e) (bound-good f))
-bounds-good (two left right e f g) = (bound-good f, bound-good g)
+bounds-good (one-bound f e) = (bound-good f, subst (λ b. T (isBound b)) (sym e) (bound-good f))
+bounds-good (two-bounds left right e f g) = (bound-good f, bound-good g)
 
 line-bounded : (ns : List (List ℕ)) (cs : List ℕ) (l : Line) → LineFits cs l → T (all isScalar cs) → T (all bounded (rangesOf ns l))
 unfolding rangesOf bounded

@@ -17,9 +17,9 @@ use Rattle.paper.specs.Lists.{all, any, joined, same}
 use Rattle.paper.specs.Text.Scalar.{In, WellFormed, nothing, utf8-1, utf8-2, utf8-3-E0, utf8-3-E1, utf8-3-ED, utf8-3-EE, utf8-4-F0, utf8-4-F1, utf8-4-F4}
 use Rattle.paper.specs.Numbers.Bytes.{isByte}
 use Rattle.paper.specs.CharDef.Reading.{Definition, Range, Reading, nameBytes, references, Within, accepted}
-use Rattle.paper.specs.Pack.Fields.{version, versionWidth, categoriesWidth, linesWidth, rangesWidth, referencesWidth, nameLengthWidth, byteWidth, flagWidth, lengthWidth, boundWidth, countWidth, numberWidth, Field, flag, field, nameFields, definitionFields, rangeFields, packFields, bits, spell, packBits, inBytes, packBytes}
+use Rattle.paper.specs.Pack.Fields.{version, versionWidth, categoriesWidth, linesWidth, rangesWidth, referencesWidth, nameLengthWidth, byteWidth, flagWidth, lengthWidth, boundWidth, countWidth, numberWidth, Field, flag, field, nameFields, definitionFields, rangeFields, packFields, bits, spell, packBits, inBytes, packBytes, bitsOf}
 use Rattle.paper.specs.Pack.Rules.{numbered, hasBytes, onceAfter, isBound, bounded, sized, PackRules}
-use Rattle.paper.specs.Computed.ReadPack.{unpackBits, Taken, short, taken, takeNumber, takeBytes, Outcome, gave, broke, Reader, afterOutcome, _▹_, give, settle, fieldOr, number, free, bytesField, demand, isPadding, padding, many, lengthRule, nameRule, readName, readNames, readDefinition, countRule, readRange, readRanges, upTo, readBody, readCounted, readFields, readAll, answer, readPack}
+use Rattle.paper.specs.Computed.ReadPack.{Taken, short, taken, takeNumber, takeBytes, Outcome, gave, broke, Reader, afterOutcome, _▹_, give, settle, fieldOr, number, free, bytesField, demand, isPadding, padding, many, lengthRule, nameRule, readName, readNames, readDefinition, countRule, readRange, readRanges, upTo, readBody, readCounted, readFields, readAll, answer, readPack}
 use Rattle.paper.specs.Computed.Rules.{formed}
 use Rattle.paper.proofs.Apart.{refused-accepted, broke-gave}
 use Rattle.paper.proofs.Lists.Facts.{T→true, true→T}
@@ -681,15 +681,15 @@ pub record PackIs (p : List ℕ) (r : Reading) : Type 0 where
   pub rules : PackRules r
   pub pad : List ℕ
   pub zero-bits : T (isPadding pad)
-  pub whole : unpackBits p ≡ packBits r ++ pad
+  pub whole : bitsOf p ≡ packBits r ++ pad
 
-all-read : (p : List ℕ) (r : Reading) (to : ℕ) (t : List ℕ) → readAll 0 (unpackBits p) ≡ gave r to t → PackIs p r
+all-read : (p : List ℕ) (r : Reading) (to : ℕ) (t : List ℕ) → readAll 0 (bitsOf p) ≡ gave r to t → PackIs p r
 unfolding readAll
 all-read p r to t e =
-    let x = split readFields _ 0 (unpackBits p) r to t e in
+    let x = split readFields _ 0 (bitsOf p) r to t e in
     let y = split padding _ (x .place) (x .rest) r to t (x .second) in
     let (er, et) = given (x .value) (y .place) (y .rest) r to t (y .second) in
-    let f = fields-read 0 (unpackBits p) r (x .place) (x .rest) (unpack-bits p) (x .first ∙ ap (λ v. gave v (x .place) (x .rest)) er) in
+    let f = fields-read 0 (bitsOf p) r (x .place) (x .rest) (unpack-bits p) (x .first ∙ ap (λ v. gave v (x .place) (x .rest)) er) in
     record { rules = f .rules; pad = x .rest; zero-bits = padding-is (x .place) (x .rest) (y .value) (y .place) (y .rest) (y .first); whole = f .whole }
 
 pub answered : (o : Outcome Reading) (r : Reading) → answer o ≡ accepted r → (to : ℕ) × (t : List ℕ) × (o ≡ gave r to t)
@@ -698,7 +698,7 @@ answered (gave q to t) r h = let e : q ≡ r = cc in (to, t, ap (λ v. gave v to
 
 pub pack-is : (p : List ℕ) (r : Reading) → readPack p ≡ accepted r → PackIs p r
 unfolding readPack
-pack-is p r h = let (to, t, e) = answered (readAll 0 (unpackBits p)) r h in all-read p r to t e
+pack-is p r h = let (to, t, e) = answered (readAll 0 (bitsOf p)) r h in all-read p r to t e
 
 -- what is accepted keeps the rules
 pub read-rules : (p : List ℕ) (r : Reading) → readPack p ≡ accepted r → PackRules r

@@ -10,11 +10,11 @@ use lib.Dec.{leb, ltb}
 use lib.ListN.{length, length-map}
 use borrow.Author.Tests.{leb-true, leb-false, lt-ltb, le-ltb}
 use Rattle.paper.specs.Sizes.{maxRows, maxRowPlaces, maxPackBytes, maxFlatRow, bmpSize}
-use Rattle.paper.specs.Lists.{all, any}
+use Rattle.paper.specs.Lists.{all, any, offsetsFrom}
 use Rattle.paper.specs.CharDef.Reading.{Reading}
 use Rattle.paper.specs.Rows.Covering.{rows}
 use Rattle.paper.specs.Rows.Flat.{shortRows, flatPool}
-use Rattle.paper.specs.Rows.Build.{rowsNeeded, placesNeeded, rowOverlong, built, rowsBuilt, flatBuilt, packWritten, offsets, ExactNeeds}
+use Rattle.paper.specs.Rows.Build.{rowsNeeded, placesNeeded, rowOverlong, built, rowsBuilt, flatBuilt, packWritten, ExactNeeds}
 use Rattle.paper.specs.Pack.Rules.{PackRules}
 use Rattle.paper.proofs.Lists.Facts.{joined-length}
 use Rattle.paper.proofs.Rows.Boundaries.{row-for-each}
@@ -42,8 +42,7 @@ overlong-is r = go (rows r)
     go [] = refl
     go (w ∷ ws) = ap₂ (λ x y. x || y) (above maxFlatRow (length w)) (go ws) ∙ demorgan (leb (length w) maxFlatRow) _
 
-pub offsets-length : (at : ℕ) (ws : List (List ℕ)) → length (offsets at ws) ≡ length ws
-unfolding offsets
+pub offsets-length : (at : ℕ) (ws : List (List ℕ)) → length (offsetsFrom at ws) ≡ length ws
 offsets-length at [] = refl
 offsets-length at (w ∷ ws) = ap suc (offsets-length (at + length w) ws)
 

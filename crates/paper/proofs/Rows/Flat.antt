@@ -14,7 +14,7 @@ use Rattle.paper.specs.Sizes.{maxFlatRow, maxRowPlaces, maxU32, bmpSize}
 use Rattle.paper.specs.Lists.{all, joined, sum}
 use Rattle.paper.specs.CharDef.Reading.{Reading, Within}
 use Rattle.paper.specs.Rows.Covering.{categoriesAt, boundaries, rows}
-use Rattle.paper.specs.Rows.Flat.{rowNumber, entry, entryOffset, entryLength, maxOffset, offsetOf, flatEntry, entryPart, shortRows, counting, flatIndex, flatPool}
+use Rattle.paper.specs.Rows.Flat.{rowNumber, entryOf, entryOffset, entryLength, maxOffset, offsetOf, flatEntry, entryPart, shortRows, counting, flatIndex, flatPool}
 use Rattle.paper.specs.Pack.Rules.{numbered}
 use Rattle.paper.proofs.Lists.Facts.{joined-length}
 use Rattle.paper.proofs.Rows.Boundaries.{row-for-each}
@@ -43,7 +43,7 @@ row-short (w ∷ ws) (suc i) t = row-short ws i (and-yes (leb (length w) maxFlat
 
 -- ---- an entry
 
-entry-parts : (o l : ℕ) → l ≤ maxFlatRow → (entryOffset (entry o l) ≡ o) × (entryLength (entry o l) ≡ l)
+entry-parts : (o l : ℕ) → l ≤ maxFlatRow → (entryOffset (entryOf o l) ≡ o) × (entryLength (entryOf o l) ≡ l)
 entry-parts o l h = (omega arith, omega arith)
 
 module _ (r : Reading) (c : ℕ) where

@@ -15,9 +15,9 @@ use Rattle.paper.specs.Sizes.{maxUnkEntries, maxU32, maxI32, lowI32}
 use Rattle.paper.specs.Refusals.{unkFields, unkNumber, unkEntriesFull}
 use Rattle.paper.specs.Lists.{empty, all, cut, is, without, joinWith}
 use Rattle.paper.specs.Text.Scalar.{comma}
-use Rattle.paper.specs.Numbers.Numeral.{Integer, decimal}
+use Rattle.paper.specs.Numbers.Numeral.{Integer, decimal, NoU32, NoI32}
 use Rattle.paper.specs.Unk.Entry.{Entry, UnkLine}
-use Rattle.paper.specs.Unk.Bad.{UnderFour, Unreadable, NoU32, NoI32, BadUnkLine, fields-short, number-unreadable, entries-full}
+use Rattle.paper.specs.Unk.Bad.{UnderFour, Unreadable, BadUnkLine, fields-short, number-unreadable, entries-full}
 use Rattle.paper.specs.Computed.Numeral.{numeral, signedNumeral}
 use Rattle.paper.specs.Computed.ReadUnk.{UnkFound, entry, no-entry, fromUnkNumbers, fromFields, unkLineOf, Entries, entries-are, stops, consEntry, orFull, enterUnk, readEntries}
 use Rattle.paper.proofs.Apart.{stops-entries}

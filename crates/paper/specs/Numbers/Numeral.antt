@@ -104,6 +104,13 @@ U32 cs n = Numeral decimal maxU32 cs n
 abbrev pub I32 : List ℕ → Integer → Type 0
 I32 cs i = SignedNumeral decimal maxI32 lowI32 cs i
 
+-- the characters spell none
+abbrev pub NoU32 : List ℕ → Type 0
+NoU32 cs = (n : ℕ) → U32 cs n → ⊥
+
+abbrev pub NoI32 : List ℕ → Type 0
+NoI32 cs = (i : Integer) → I32 cs i → ⊥
+
 -- ---- sixteen bits
 
 abbrev pub modulus16 : ℕ

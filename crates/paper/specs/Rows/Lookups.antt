@@ -13,7 +13,7 @@ use Rattle.paper.specs.Refusals.{notScalar}
 use Rattle.paper.specs.Lists.{any, empty, sum, positionOf, distinct}
 use Rattle.paper.specs.Text.Scalar.{IsScalar}
 use Rattle.paper.specs.CharDef.Reading.{Reading}
-use Rattle.paper.specs.Rows.Covering.{Boundaries, boundaries, holds, covers, named, defaults, categoriesAt, rows}
+use Rattle.paper.specs.Rows.Covering.{Boundaries, boundaries, rangeHolds, covers, named, defaults, categoriesAt, rows}
 use Rattle.paper.specs.Rows.Flat.{evalRow, entryOffset, entryLength, maxOffset, flatEntry, entryPart, shortRows, flatPool}
 use Rattle.paper.specs.Rows.Lookup.{Looked, gives, refuses, LookupTables, Part, ofFlat, Looks, packedAt, FlatLeft, AsBuilt, GivesPart}
 use Rattle.paper.specs.Rows.Numbers.{lowestNamed, findName, definitionAt, nameAt, lookupDefinition, categoryName, nameOf}
@@ -37,11 +37,11 @@ pub record Lookups (r : Reading) : Type 0 where
   pub entry-fits : (c : ℕ) → T (shortRows (rows r)) → flatEntry r c ≤ maxU32
   -- the covering rule: distinct categories of the ranges that hold c, in first-seen order; with none, DEFAULT if it is interned
   pub distinct-row : (c : ℕ) → T (distinct (categoriesAt r c))
-  pub exactly : (c x : ℕ) → any (eqb x) (named r c) ≡ any (λ g. holds c g && any (eqb x) (g .categories)) (r .ranges)
+  pub exactly : (c x : ℕ) → any (eqb x) (named r c) ≡ any (λ g. rangeHolds c g && any (eqb x) (g .categories)) (r .ranges)
   pub first-seen : (c x y : ℕ)
       → ltb (positionOf eqb x (named r c)) (positionOf eqb y (named r c)) ≡ ltb (positionOf eqb x (covers r c)) (positionOf eqb y (covers r c))
-  pub with-some : (c : ℕ) → T (any (λ g. holds c g && not (empty (g .categories))) (r .ranges)) → categoriesAt r c ≡ named r c
-  pub with-none : (c : ℕ) → T (not (any (λ g. holds c g && not (empty (g .categories))) (r .ranges))) → categoriesAt r c ≡ defaults r
+  pub with-some : (c : ℕ) → T (any (λ g. rangeHolds c g && not (empty (g .categories))) (r .ranges)) → categoriesAt r c ≡ named r c
+  pub with-none : (c : ℕ) → T (not (any (λ g. rangeHolds c g && not (empty (g .categories))) (r .ranges))) → categoriesAt r c ≡ defaults r
   -- over any tables a lookup has an answer
   pub answer : (t : LookupTables) (c : ℕ) → (a : Looked Part) × Looks t c a
   -- over tables as built: one answer, at a scalar value the part that holds the covering rule, at any other number 14
