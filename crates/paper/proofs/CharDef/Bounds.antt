@@ -12,7 +12,7 @@ use borrow.Author.Tests.{eqb-true, eqb-false}
 use Rattle.paper.specs.Sizes.{maxU16}
 use Rattle.paper.specs.Refusals.{rangeParts, boundUnreadable, boundMark}
 use Rattle.paper.specs.Lists.{push}
-use Rattle.paper.specs.Text.Scalar.{dot}
+use Rattle.paper.specs.Text.Scalar.{dot, byteOrderMark, swappedMark}
 use Rattle.paper.specs.Numbers.Numeral.{hexadecimal}
 use Rattle.paper.specs.CharDef.Line.{standsFor, Bound}
 use Rattle.paper.specs.CharDef.BadLine.{NoDots, Parts, one-part, two-parts, ThreeParts, Hex16, BadBound, no-hex, mark, swapped}
@@ -158,10 +158,10 @@ pub judged : (part : List ℕ) → Judged part (boundOf part)
 unfolding boundOf
 judged part = go (numeral hexadecimal maxU16 (strip0x part)) refl
   where
-    some-case : (c : ℕ) → Hex16 part c → (x y : Bool) → eqb c 0xFEFF ≡ x → eqb c 0xFFFE ≡ y
+    some-case : (c : ℕ) → Hex16 part c → (x y : Bool) → eqb c byteOrderMark ≡ x → eqb c swappedMark ≡ y
         → Judged part (cond (x || y) (noBound boundMark) (boundIs (standsFor c)))
-    some-case c h true y ex ey = bad (mark (subst (Hex16 part) (eqb-true c 0xFEFF ex) h))
-    some-case c h false true ex ey = bad (swapped (subst (Hex16 part) (eqb-true c 0xFFFE ey) h))
+    some-case c h true y ex ey = bad (mark (subst (Hex16 part) (eqb-true c byteOrderMark ex) h))
+    some-case c h false true ex ey = bad (swapped (subst (Hex16 part) (eqb-true c swappedMark ey) h))
     some-case c h false false ex ey =
         good (record {
           times = h .times;
@@ -170,14 +170,14 @@ judged part = go (numeral hexadecimal maxU16 (strip0x part)) refl
           whole = h .whole;
           enough = zero-le;
           number = h .number;
-          noMark = eqb-false c 0xFEFF ex;
-          noSwap = eqb-false c 0xFFFE ey;
+          noMark = eqb-false c byteOrderMark ex;
+          noSwap = eqb-false c swappedMark ey;
           says = refl;
         })
 
     go : (o : Option ℕ) → numeral hexadecimal maxU16 (strip0x part) ≡ o → Judged part (checkedBound o)
     go none e = bad (no-hex (λ code h. none-some (sym e ∙ hex-read h)))
-    go (some c) e = some-case c (hex-found part c e) (eqb c 0xFEFF) (eqb c 0xFFFE) refl refl
+    go (some c) e = some-case c (hex-found part c e) (eqb c byteOrderMark) (eqb c swappedMark) refl refl
 
 pub bad-read : {part : List ℕ} {n : ℕ} → BadBound part n → boundOf part ≡ noBound n
 unfolding boundOf checkedBound

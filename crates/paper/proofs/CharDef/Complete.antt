@@ -9,7 +9,7 @@ use mir.Facts.{and-yes, yes-and, T-not, not-T}
 use borrow.Author.Tests.{ne-eqb}
 use Rattle.paper.specs.Sizes.{maxU16, maxU32}
 use Rattle.paper.specs.Lists.{empty, all, full, nothingOr, words, until, trimStart, trimEnd}
-use Rattle.paper.specs.Text.Scalar.{isWhite, isSep, hash, plusSign, dot, digit0, letterX}
+use Rattle.paper.specs.Text.Scalar.{isWhite, isSep, hash, plusSign, dot, digit0, letterX, byteOrderMark, swappedMark}
 use Rattle.paper.specs.Numbers.Numeral.{isDigit, plus, Numeral, decimal, hexadecimal, noDigit}
 use Rattle.paper.specs.CharDef.Line.{Line, blank, category, range, isHash, isNameChar, isFieldChar, comment, begins0x, beginsWhite, zeroXs, Bound, Bounds, one-bound, two-bounds, Names, BlankLine, RangeLine, CategoryLine, LineFits}
 use Rattle.paper.specs.CharDef.Line as line
@@ -110,8 +110,8 @@ bound-read b =
       b .whole,
       strip-all (b .times) (b .numeral) (no-0x (b .number)),
       numeral-read hexadecimal maxU16 hex-small (b .number),
-      ne-eqb (b .code) 0xFEFF (b .noMark),
-      ne-eqb (b .code) 0xFFFE (b .noSwap),
+      ne-eqb (b .code) byteOrderMark (b .noMark),
+      ne-eqb (b .code) swappedMark (b .noSwap),
       b .says,
     )
 

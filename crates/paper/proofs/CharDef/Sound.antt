@@ -12,7 +12,7 @@ use borrow.Author.Tests.{eqb-false}
 use Rattle.paper.specs.Sizes.{maxU16, maxU32}
 use Rattle.paper.specs.Refusals.{boundMark}
 use Rattle.paper.specs.Lists.{all, full, nothingOr, push, words, until, trimStart, trimEnd}
-use Rattle.paper.specs.Text.Scalar.{isWhite, isSep, dot, digit0, letterX}
+use Rattle.paper.specs.Text.Scalar.{isWhite, isSep, dot, digit0, letterX, byteOrderMark, swappedMark}
 use Rattle.paper.specs.Numbers.Numeral.{decimal, hexadecimal}
 use Rattle.paper.specs.CharDef.Line.{Line, blank, category, range, isHash, isNameChar, isFieldChar, comment, begins0x, beginsWhite, zeroXs, standsFor, Bound, Bounds, one-bound, two-bounds, Names, LineFits}
 use Rattle.paper.specs.CharDef.Line as line
@@ -47,7 +47,7 @@ bound-sound least cs v h m = go (numeral hexadecimal maxU16 (strip0x cs)) refl h
     s : (k : ℕ) × (cs ≡ zeroXs k ++ strip0x cs) × (T (begins0x cs) → 1 ≤ k)
     s = strip-rest cs
 
-    some-case : (c : ℕ) → numeral hexadecimal maxU16 (strip0x cs) ≡ some c → (x y : Bool) → eqb c 0xFEFF ≡ x → eqb c 0xFFFE ≡ y
+    some-case : (c : ℕ) → numeral hexadecimal maxU16 (strip0x cs) ≡ some c → (x y : Bool) → eqb c byteOrderMark ≡ x → eqb c swappedMark ≡ y
         → cond (x || y) (noBound boundMark) (BoundFound.boundIs (standsFor c)) ≡ BoundFound.boundIs v → Bound least cs v
     some-case c n true y ex ey h = none-bound h
     some-case c n false true ex ey h = none-bound h
@@ -59,14 +59,14 @@ bound-sound least cs v h m = go (numeral hexadecimal maxU16 (strip0x cs)) refl h
           whole = s .1;
           enough = m (s .0) (s .2);
           number = numeral-sound hexadecimal maxU16 (strip0x cs) c n;
-          noMark = eqb-false c 0xFEFF ex;
-          noSwap = eqb-false c 0xFFFE ey;
+          noMark = eqb-false c byteOrderMark ex;
+          noSwap = eqb-false c swappedMark ey;
           says = cc;
         }
 
     go : (o : Option ℕ) → numeral hexadecimal maxU16 (strip0x cs) ≡ o → checkedBound o ≡ BoundFound.boundIs v → Bound least cs v
     go none n h = none-bound h
-    go (some c) n h = some-case c n (eqb c 0xFEFF) (eqb c 0xFFFE) refl refl h
+    go (some c) n h = some-case c n (eqb c byteOrderMark) (eqb c swappedMark) refl refl h
 
 data Dotted : List ℕ → List (List ℕ) → Type 0 where
   lone : {cs : List ℕ} → Dotted cs (cs ∷ [])

@@ -11,7 +11,7 @@ use lib.Dec.{T}
 use lib.ListN.{drop, take-append-drop}
 use Rattle.paper.specs.CharDef.Reading.{Reading}
 use Rattle.paper.specs.Pack.Rules.{PackRules}
-use Rattle.paper.specs.Tables.Layout.{Tables, layout, countsOf, used, behind}
+use Rattle.paper.specs.Tables.Layout.{Tables, layout, countsOf, used, behind, nameSlotSize, definitionSize, rangeSlotSize, referenceSize}
 use Rattle.paper.specs.Tables.HandedIn.{HoldTogether, OfBytes}
 use Rattle.paper.specs.Computed.HandedIn.{decoded, holds, handedIn}
 use Rattle.paper.specs.declared.Counts.{Counts}
@@ -24,17 +24,17 @@ beyond : Counts → Tables → Tables
 beyond n t =
     record {
       names = drop (n .bytes) (t .names);
-      categories = drop (4 * n .categories) (t .categories);
-      definitions = drop (6 * n .definitions) (t .definitions);
-      ranges = drop (8 * n .ranges) (t .ranges);
-      references = drop (2 * n .references) (t .references);
+      categories = drop (nameSlotSize * n .categories) (t .categories);
+      definitions = drop (definitionSize * n .definitions) (t .definitions);
+      ranges = drop (rangeSlotSize * n .ranges) (t .ranges);
+      references = drop (referenceSize * n .references) (t .references);
     }
 
 used-beyond : (t : Tables) (n : Counts) → behind (used n t) (beyond n t) ≡ t
 unfolding behind used beyond
 used-beyond t n =
-    tables-is t _ _ _ _ _ (take-append-drop (n .bytes) (t .names)) (take-append-drop (4 * n .categories) (t .categories))
-    (take-append-drop (6 * n .definitions) (t .definitions)) (take-append-drop (8 * n .ranges) (t .ranges)) (take-append-drop (2 * n .references) (t .references))
+    tables-is t _ _ _ _ _ (take-append-drop (n .bytes) (t .names)) (take-append-drop (nameSlotSize * n .categories) (t .categories))
+    (take-append-drop (definitionSize * n .definitions) (t .definitions)) (take-append-drop (rangeSlotSize * n .ranges) (t .ranges)) (take-append-drop (referenceSize * n .references) (t .references))
 
 -- tables in which a reading stands are handed in as it
 pub stands-handed : (t : Tables) (n : Counts) (r : Reading) → HoldTogether t n r → handedIn t n ≡ some r

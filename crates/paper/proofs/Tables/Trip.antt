@@ -19,7 +19,7 @@ use Rattle.paper.specs.Pack.Fields.{flag}
 use Rattle.paper.specs.Pack.Rules.{isBound, once, numbered, PackRules}
 use Rattle.paper.specs.Pack.Rules as rule
 use Rattle.paper.specs.Tables.HandedIn.{HoldTogether, OfBytes}
-use Rattle.paper.specs.Tables.Layout.{pieces, NameSlot, RangeSlot, nameSlotBytes, definitionBytes, slotBytes, nameSlotOf, definitionOf, slotOf, nameSlots, rangeSlots, split, ranging, Tables, countsOf, numbersOf, layout, used, behind}
+use Rattle.paper.specs.Tables.Layout.{pieces, NameSlot, RangeSlot, nameSlotBytes, definitionBytes, slotBytes, nameSlotOf, definitionOf, slotOf, nameSlots, rangeSlots, split, ranging, Tables, countsOf, numbersOf, layout, used, behind, nameSlotSize, definitionSize, rangeSlotSize, referenceSize}
 use Rattle.paper.specs.Tables.Lent.{num}
 use Rattle.paper.specs.Computed.HandedIn.{enough, nameSlotsStand, slotsStand, flagged, nameSlotsIn, namesIn, slotsIn, numbersIn, decoded, holds, handedIn}
 use Rattle.paper.specs.Computed.Rules.{formed}
@@ -415,7 +415,7 @@ module _ (r : Reading) (x : Tables) (ok : Kept r) where
       ∙ ap (λ l. split l (joined (r .names) ++ x .names)) (places-lens 0 (map length (r .names)))
       ∙ split-joined (r .names) (x .names)
 
-  definitions-in : map definitionOf (pieces 6 (n .definitions) (t .definitions)) ≡ r .definitions
+  definitions-in : map definitionOf (pieces definitionSize (n .definitions) (t .definitions)) ≡ r .definitions
   unfolding t n behind layout countsOf smallDefinition
   definitions-in = there 6 definitionBytes definitionOf wide-definition smallDefinition definition-there (r .definitions) (length (r .definitions)) (x .definitions) refl (ok .lengths)
 
@@ -439,7 +439,7 @@ module _ (r : Reading) (x : Tables) (ok : Kept r) where
   ranges-in =
       ap₂ ranging rows-in (numbers-in ∙ sym (append-nil (numbersOf (r .ranges)))) ∙ ranging-rows 0 (r .ranges) []
 
-  flags-in : T (all flagged (pieces 6 (n .definitions) (t .definitions)))
+  flags-in : T (all flagged (pieces definitionSize (n .definitions) (t .definitions)))
   unfolding t n behind layout countsOf flagged
   flags-in = subst (λ l. T (all flagged l)) (sym (pieces-table 6 definitionBytes wide-definition (r .definitions) (x .definitions))) (go (r .definitions))
     where
@@ -481,7 +481,7 @@ module _ (r : Reading) (x : Tables) (ok : Kept r) where
   holds-in =
       both enough-in
       (both (ap (nameSlotsStand (n .bytes) 0) places-in ∙ T→true _ stand)
-      (both (T→true (all flagged (pieces 6 (n .definitions) (t .definitions))) flags-in)
+      (both (T→true (all flagged (pieces definitionSize (n .definitions) (t .definitions))) flags-in)
       (both (ap (slotsStand (n .references) 0) rows-in ∙ T→true _ stand-rows)
       (both (ap (all (λ c. ltb c (n .categories))) numbers-in ∙ T→true _ known-in)
       (both (ap (all formed) names-in ∙ T→true _ (ok .well)) (ap (once) names-in ∙ T→true _ (ok .single)))))))
@@ -496,10 +496,10 @@ handed-in r x k = let ok = keeps r k in rw (holds-in r x ok, names-in r x ok, de
 pub record Enough (names categories definitions ranges references : ℕ) (n : Counts) : Type 0 where
   pub limits : (n .categories ≤ maxCategories) × ((n .bytes ≤ maxNameBytes) × ((n .definitions ≤ maxCategoryLines) × ((n .ranges ≤ maxRanges) × (n .references ≤ maxReferences))))
   pub for-names : n .bytes ≤ names
-  pub for-categories : 4 * n .categories ≤ categories
-  pub for-definitions : 6 * n .definitions ≤ definitions
-  pub for-ranges : 8 * n .ranges ≤ ranges
-  pub for-references : 2 * n .references ≤ references
+  pub for-categories : nameSlotSize * n .categories ≤ categories
+  pub for-definitions : definitionSize * n .definitions ≤ definitions
+  pub for-ranges : rangeSlotSize * n .ranges ≤ ranges
+  pub for-references : referenceSize * n .references ≤ references
 
 pub says : (a b c d e : ℕ) (n : Counts) → T (enough a b c d e n) → Enough a b c d e n
 unfolding enough
@@ -510,9 +510,9 @@ says a b c d e n t =
     let t4 = and-yes (leb (n .ranges) maxRanges) _ (t3 .1) in
     let t5 = and-yes (leb (n .references) maxReferences) _ (t4 .1) in
     let t6 = and-yes (leb (n .bytes) a) _ (t5 .1) in
-    let t7 = and-yes (leb (4 * n .categories) b) _ (t6 .1) in
-    let t8 = and-yes (leb (6 * n .definitions) c) _ (t7 .1) in
-    let t9 = and-yes (leb (8 * n .ranges) d) (leb (2 * n .references) e) (t8 .1) in
+    let t7 = and-yes (leb (nameSlotSize * n .categories) b) _ (t6 .1) in
+    let t8 = and-yes (leb (definitionSize * n .definitions) c) _ (t7 .1) in
+    let t9 = and-yes (leb (rangeSlotSize * n .ranges) d) (leb (referenceSize * n .references) e) (t8 .1) in
     record {
       limits = (leb-yes (t1 .0), (leb-yes (t2 .0), (leb-yes (t3 .0), (leb-yes (t4 .0), leb-yes (t5 .0)))));
       for-names = leb-yes (t6 .0);
@@ -525,7 +525,7 @@ says a b c d e n t =
 record Parts (t : Tables) (n : Counts) : Type 0 where
   long : Enough (length (t .names)) (length (t .categories)) (length (t .definitions)) (length (t .ranges)) (length (t .references)) n
   placed : T (nameSlotsStand (n .bytes) 0 (nameSlotsIn t n))
-  flags : T (all flagged (pieces 6 (n .definitions) (t .definitions)))
+  flags : T (all flagged (pieces definitionSize (n .definitions) (t .definitions)))
   rowed : T (slotsStand (n .references) 0 (slotsIn t n))
   known : T (all (λ c. ltb c (n .categories)) (numbersIn t n))
   well : T (all formed (namesIn t n))
@@ -536,7 +536,7 @@ unfolding holds
 parts t n h =
     let h1 = and-yes (enough (length (t .names)) (length (t .categories)) (length (t .definitions)) (length (t .ranges)) (length (t .references)) n) _ h in
     let h2 = and-yes (nameSlotsStand (n .bytes) 0 (nameSlotsIn t n)) _ (h1 .1) in
-    let h3 = and-yes (all flagged (pieces 6 (n .definitions) (t .definitions))) _ (h2 .1) in
+    let h3 = and-yes (all flagged (pieces definitionSize (n .definitions) (t .definitions))) _ (h2 .1) in
     let h4 = and-yes (slotsStand (n .references) 0 (slotsIn t n)) _ (h3 .1) in
     let h5 = and-yes (all (λ c. ltb c (n .categories)) (numbersIn t n)) _ (h4 .1) in
     let h6 = and-yes (all formed (namesIn t n)) (once (namesIn t n)) (h5 .1) in
@@ -563,7 +563,7 @@ counts-is n a b c d e f g h i j = rw (f, g, h, i, j)
 
 count-numbers : (t : Tables) (n : Counts) → length (numbersIn t n) ≡ n .references
 unfolding numbersIn
-count-numbers t n = length-map (pieces 2 (n .references) (t .references)) (num 2 0) ∙ pieces-length 2 (n .references) (t .references)
+count-numbers t n = length-map (pieces referenceSize (n .references) (t .references)) (num 2 0) ∙ pieces-length 2 (n .references) (t .references)
 
 count-names : (r : Reading) (n : Counts) → countsOf r ≡ n → length (r .names) ≡ n .categories
 unfolding countsOf
@@ -584,7 +584,7 @@ as-bounded : (gs : List Range) → T (all bounded gs) → T (all (λ g. isBound 
 unfolding bounded
 as-bounded gs t = t
 
-lengths-small : (n : ℕ) (l : List ℕ) → T (all isByte l) → T (all (λ d. ltb (d .len) (maxU32 + 1)) (map definitionOf (pieces 6 n l)))
+lengths-small : (n : ℕ) (l : List ℕ) → T (all isByte l) → T (all (λ d. ltb (d .len) (maxU32 + 1)) (map definitionOf (pieces definitionSize n l)))
 unfolding pieces num
 lengths-small zero l t = tt
 lengths-small (suc n) l t =
@@ -609,38 +609,38 @@ module _ (t : Tables) (n : Counts) (b : OfBytes t) (h : Parts t n) where
       let e : sum (map (λ p. p .len) (nameSlotsIn t n)) ≡ n .bytes = omega arith in
       joined-split (map (λ p. p .len) (nameSlotsIn t n)) (t .names) ∙ ap (λ m. take m (t .names)) e
 
-  used-categories : joined (map nameSlotBytes (nameSlots 0 (map length (namesIn t n)))) ≡ take (4 * n .categories) (t .categories)
+  used-categories : joined (map nameSlotBytes (nameSlots 0 (map length (namesIn t n)))) ≡ take (nameSlotSize * n .categories) (t .categories)
   unfolding nameSlotsIn
   used-categories =
       ap (λ l. joined (map nameSlotBytes (nameSlots 0 l))) names-lens
       ∙ ap (λ l. joined (map nameSlotBytes l)) (standing (n .bytes) 0 (nameSlotsIn t n) (h .placed) .again-places)
       ∙ go
     where
-      go : joined (map nameSlotBytes (nameSlotsIn t n)) ≡ take (4 * n .categories) (t .categories)
+      go : joined (map nameSlotBytes (nameSlotsIn t n)) ≡ take (nameSlotSize * n .categories) (t .categories)
       go = again 4 nameSlotBytes nameSlotOf (whole 4) place-back (n .categories) (t .categories)
           (pieces-whole 4 (n .categories) (t .categories) (b .in-categories) (h .long .for-categories))
 
-  used-definitions : joined (map definitionBytes (map definitionOf (pieces 6 (n .definitions) (t .definitions)))) ≡ take (6 * n .definitions) (t .definitions)
+  used-definitions : joined (map definitionBytes (map definitionOf (pieces definitionSize (n .definitions) (t .definitions)))) ≡ take (definitionSize * n .definitions) (t .definitions)
   used-definitions =
       again 6 definitionBytes definitionOf (λ p. whole 6 p && flagged p) definition-back (n .definitions) (t .definitions)
-      (all-both (whole 6) flagged (pieces 6 (n .definitions) (t .definitions))
+      (all-both (whole 6) flagged (pieces definitionSize (n .definitions) (t .definitions))
       (pieces-whole 6 (n .definitions) (t .definitions) (b .in-definitions) (h .long .for-definitions)) (h .flags))
 
   ranges-are : Ranged 0 (slotsIn t n) (numbersIn t n)
   unfolding numbersIn
   ranges-are =
-      let e : length (map (num 2 0) (pieces 2 (n .references) (t .references))) ≡ n .references =
-      length-map (pieces 2 (n .references) (t .references)) (num 2 0) ∙ pieces-length 2 (n .references) (t .references) in
+      let e : length (map (num 2 0) (pieces referenceSize (n .references) (t .references))) ≡ n .references =
+      length-map (pieces referenceSize (n .references) (t .references)) (num 2 0) ∙ pieces-length 2 (n .references) (t .references) in
       ranged (n .references) 0 (slotsIn t n) (numbersIn t n) (h .rowed) (omega arith)
 
-  used-ranges : joined (map slotBytes (rangeSlots 0 (ranging (slotsIn t n) (numbersIn t n)))) ≡ take (8 * n .ranges) (t .ranges)
+  used-ranges : joined (map slotBytes (rangeSlots 0 (ranging (slotsIn t n) (numbersIn t n)))) ≡ take (rangeSlotSize * n .ranges) (t .ranges)
   unfolding slotsIn
   used-ranges =
       ap (λ l. joined (map slotBytes l)) (ranges-are .again-rows)
       ∙ again 8 slotBytes slotOf (whole 8) row-back (n .ranges) (t .ranges)
       (pieces-whole 8 (n .ranges) (t .ranges) (b .in-ranges) (h .long .for-ranges))
 
-  used-references : joined (map (le 2) (numbersOf (ranging (slotsIn t n) (numbersIn t n)))) ≡ take (2 * n .references) (t .references)
+  used-references : joined (map (le 2) (numbersOf (ranging (slotsIn t n) (numbersIn t n)))) ≡ take (referenceSize * n .references) (t .references)
   unfolding numbersIn
   used-references =
       ap (λ l. joined (map (le 2) l)) (ranges-are .again-numbers)
@@ -657,12 +657,12 @@ module _ (t : Tables) (n : Counts) (b : OfBytes t) (h : Parts t n) where
       let many : length (map length (namesIn t n)) ≡ length (map (λ p. p .len) (nameSlotsIn t n)) = ap length names-lens in
       let e1 = length-map (namesIn t n) length in
       let e2 = length-map (nameSlotsIn t n) (λ p. p .len) in
-      let e3 = length-map (pieces 4 (n .categories) (t .categories)) nameSlotOf in
+      let e3 = length-map (pieces nameSlotSize (n .categories) (t .categories)) nameSlotOf in
       let e4 = pieces-length 4 (n .categories) (t .categories) in
-      let f1 = length-map (pieces 6 (n .definitions) (t .definitions)) definitionOf in
+      let f1 = length-map (pieces definitionSize (n .definitions) (t .definitions)) definitionOf in
       let f2 = pieces-length 6 (n .definitions) (t .definitions) in
       let g1 = ranges-are .as-many in
-      let g2 = length-map (pieces 8 (n .ranges) (t .ranges)) slotOf in
+      let g2 = length-map (pieces rangeSlotSize (n .ranges) (t .ranges)) slotOf in
       let g3 = pieces-length 8 (n .ranges) (t .ranges) in
       counts-is n _ _ _ _ _ (omega arith) (f1 ∙ f2) (g1 ∙ g2 ∙ g3) references-are (omega arith)
     where

@@ -11,7 +11,7 @@ use lib.ListN.{length}
 use Rattle.paper.specs.Sizes.{maxU16, maxCategories, maxNameBytes, maxCategoryLines, maxRanges, maxReferences, lineFields}
 use Rattle.paper.specs.Refusals.{rangeParts, boundUnreadable, boundMark, categoryFields, categoryNumber, rangesFull, referencesFull, categoryLinesFull, categoriesFull, nameBytesFull}
 use Rattle.paper.specs.Lists.{all, full, any, same, without, freshAfter}
-use Rattle.paper.specs.Text.Scalar.{isWhite, isSep, hash, dot}
+use Rattle.paper.specs.Text.Scalar.{isWhite, isSep, hash, dot, byteOrderMark, swappedMark}
 use Rattle.paper.specs.Numbers.Numeral.{Numeral, NoU32, hexadecimal}
 use Rattle.paper.specs.CharDef.Line.{Line, category, range, LineFits, comment, begins0x, beginsWhite, zeroXs, Bound}
 use Rattle.paper.specs.CharDef.Reading.{Reading, namesOf, nameBytes, references}
@@ -85,8 +85,8 @@ pub data BadBound (part : List ℕ) : ℕ → Type 0 where
   -- 5: bound is no 16-bit hex number
   no-hex : ((code : ℕ) → Hex16 part code → ⊥) → BadBound part boundUnreadable
   -- 6: bound is FEFF or FFFE
-  mark : Hex16 part 0xFEFF → BadBound part boundMark
-  swapped : Hex16 part 0xFFFE → BadBound part boundMark
+  mark : Hex16 part byteOrderMark → BadBound part boundMark
+  swapped : Hex16 part swappedMark → BadBound part boundMark
 
 -- ---- a line that fits nothing
 

@@ -8,7 +8,7 @@ use mathlib.Core.List.{List, [], _∷_, _++_}
 use lib.Dec.{T, eqb}
 use Rattle.paper.specs.Sizes.{maxU16}
 use Rattle.paper.specs.Lists.{all, full, nothingOr}
-use Rattle.paper.specs.Text.Scalar.{between, isWhite, isSep, hash, dot, digit0, letterX}
+use Rattle.paper.specs.Text.Scalar.{isWhite, isSep, hash, dot, digit0, letterX, isSurrogate, byteOrderMark, swappedMark, replacement}
 use Rattle.paper.specs.Numbers.Numeral.{Numeral, hexadecimal, U32}
 
 pub data Line : Type 0 where
@@ -51,7 +51,7 @@ zeroXs (suc k) = digit0 ∷ letterX ∷ zeroXs k
 
 -- D800 to DFFF stand for FFFD
 unfoldable pub standsFor : ℕ → ℕ
-standsFor c = cond (between 0xD800 0xDFFF c) 0xFFFD c
+standsFor c = cond (isSurrogate c) replacement c
 
 -- a bound: `0x` at least so many times, and a 16-bit numeral, neither FEFF nor FFFE
 pub record Bound (least : ℕ) (cs : List ℕ) (bound : ℕ) : Type 0 where
@@ -61,8 +61,8 @@ pub record Bound (least : ℕ) (cs : List ℕ) (bound : ℕ) : Type 0 where
   pub whole : cs ≡ zeroXs times ++ numeral
   pub enough : least ≤ times
   pub number : Numeral hexadecimal maxU16 numeral code
-  pub noMark : code ≢ 0xFEFF
-  pub noSwap : code ≢ 0xFFFE
+  pub noMark : code ≢ byteOrderMark
+  pub noSwap : code ≢ swappedMark
   pub says : bound ≡ standsFor code
 
 -- one bound is both; or two joined by `..`, the second with or without `0x`

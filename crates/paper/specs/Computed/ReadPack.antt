@@ -101,7 +101,7 @@ demand b at s = cond b (gave tt at s) (broke packRule at)
 
 -- zero bits, fewer than eight, and nothing behind them
 abbrev pub isPadding : List ℕ → Bool
-isPadding s = ltb (length s) 8 && all (eqb 0) s
+isPadding s = ltb (length s) byteWidth && all (eqb 0) s
 
 unfoldable pub padding : Reader (Unit {0})
 padding at s = cond (isPadding s) (gave tt at []) (broke packLeftOver at)

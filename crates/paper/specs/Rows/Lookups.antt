@@ -11,7 +11,7 @@ use lib.ListN.{length, getD}
 use Rattle.paper.specs.Sizes.{maxRows, maxRowPlaces, maxU32, bmpSize}
 use Rattle.paper.specs.Refusals.{notScalar}
 use Rattle.paper.specs.Lists.{any, empty, sum, positionOf, distinct}
-use Rattle.paper.specs.Text.Scalar.{IsScalar}
+use Rattle.paper.specs.Text.Scalar.{IsScalar, firstSurrogate, lastSurrogate, lastScalar}
 use Rattle.paper.specs.CharDef.Reading.{Reading}
 use Rattle.paper.specs.Rows.Covering.{Boundaries, boundaries, rangeHolds, covers, named, defaults, categoriesAt, rows}
 use Rattle.paper.specs.Rows.Flat.{evalRow, entryOffset, entryLength, maxOffset, flatEntry, entryPart, shortRows, flatPool}
@@ -47,8 +47,8 @@ pub record Lookups (r : Reading) : Type 0 where
   -- over tables as built: one answer, at a scalar value the part that holds the covering rule, at any other number 14
   pub answers : (t : LookupTables) (c : ℕ) (a : Looked Part) → AsBuilt r t → IsScalar c → Looks t c a → GivesPart t (categoriesAt r c) a
   pub one-answer : (t : LookupTables) (c : ℕ) (a b : Looked Part) → AsBuilt r t → Looks t c a → Looks t c b → a ≡ b
-  pub no-surrogate : (t : LookupTables) (c : ℕ) (a : Looked Part) → 0xD800 ≤ c → c ≤ 0xDFFF → Looks t c a → a ≡ refuses notScalar
-  pub nothing-beyond : (t : LookupTables) (c : ℕ) (a : Looked Part) → 0x10FFFF < c → Looks t c a → a ≡ refuses notScalar
+  pub no-surrogate : (t : LookupTables) (c : ℕ) (a : Looked Part) → firstSurrogate ≤ c → c ≤ lastSurrogate → Looks t c a → a ≡ refuses notScalar
+  pub nothing-beyond : (t : LookupTables) (c : ℕ) (a : Looked Part) → lastScalar < c → Looks t c a → a ≡ refuses notScalar
   -- the packed entry, and that it addresses the part which the lookup answers
   pub packed : (t : LookupTables) (c : ℕ) → FlatLeft r t → IsScalar c → c < bmpSize → packedAt (t .index) c ≡ gives (some (flatEntry r c))
   pub packed-part : (t : LookupTables) (c e : ℕ) (p : Part) → packedAt (t .index) c ≡ gives (some e) → Looks t c (gives p)

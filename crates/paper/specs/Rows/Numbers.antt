@@ -12,19 +12,12 @@ use Rattle.paper.specs.Lists.{any, positionOf, same}
 use Rattle.paper.specs.CharDef.Reading.{Definition, Reading}
 use Rattle.paper.specs.Rows.Lookup.{Looked, gives, refuses}
 use Rattle.paper.specs.Tables.Lent.{num}
-use Rattle.paper.specs.Tables.Layout.{NameSlot, pieces, nameSlotOf, definitionOf}
+use Rattle.paper.specs.Tables.Layout.{NameSlot, pieces, nameSlotOf, definitionOf, nameSlotSize, definitionSize}
 
 -- ---- names: "the lowest number with that name", in a store and the first `count` slots of a table
 
--- bytes of a category's slot and of a definition
-abbrev pub slotWidth : ℕ
-slotWidth = 4
-
-abbrev pub definitionWidth : ℕ
-definitionWidth = 6
-
 abbrev pub nameSlotsOf : List ℕ → ℕ → List NameSlot
-nameSlotsOf table count = map nameSlotOf (pieces slotWidth count table)
+nameSlotsOf table count = map nameSlotOf (pieces nameSlotSize count table)
 
 abbrev pub nameIn : List ℕ → NameSlot → List ℕ
 nameIn store p = take (p .len) (drop (p .start) store)
@@ -46,7 +39,7 @@ lowestNamed name names = cond (any (same name) names) (some (positionOf same nam
 unfoldable pub findName : (store table : List ℕ) → ℕ → List ℕ → Looked (Option ℕ)
 unfolding lowestNamed pieces num
 findName store table count name =
-    cond (ltb (length table) (slotWidth * count) || any (pastStore store) (nameSlotsOf table count)) (refuses tablesApart)
+    cond (ltb (length table) (nameSlotSize * count) || any (pastStore store) (nameSlotsOf table count)) (refuses tablesApart)
     (gives (lowestNamed name (map (nameIn store) (nameSlotsOf table count))))
 
 -- ---- by number: 15, then 26 "exactly when what they would answer runs past its table"
@@ -70,15 +63,15 @@ unfoldable pub lookupDefinition : List ℕ → ℕ → ℕ → Looked Definition
 unfolding num
 lookupDefinition table count k =
     cond (leb count k) (refuses numberUnknown)
-    (cond (ltb (length table) (definitionWidth * suc k)) (refuses tablesApart) (gives (definitionOf (entryAt definitionWidth table k))))
+    (cond (ltb (length table) (definitionSize * suc k)) (refuses tablesApart) (gives (definitionOf (entryAt definitionSize table k))))
 
 -- the name's place in the store
 unfoldable pub categoryName : (store table : List ℕ) → ℕ → ℕ → Looked NameSlot
 unfolding num
 categoryName store table count k =
     cond (leb count k) (refuses numberUnknown)
-    (cond (ltb (length table) (slotWidth * suc k) || pastStore store (nameSlotOf (entryAt slotWidth table k))) (refuses tablesApart)
-    (gives (nameSlotOf (entryAt slotWidth table k))))
+    (cond (ltb (length table) (nameSlotSize * suc k) || pastStore store (nameSlotOf (entryAt nameSlotSize table k))) (refuses tablesApart)
+    (gives (nameSlotOf (entryAt nameSlotSize table k))))
 
 -- the name there
 abbrev pub nameOf : List ℕ → Looked NameSlot → Looked (List ℕ)

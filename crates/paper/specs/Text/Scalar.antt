@@ -1,6 +1,6 @@
 -- "Text": scalar values, their UTF-8 (RFC 3629) and well-formed UTF-8, White_Space (Unicode), and characters by name.
 -- Assumes nothing.
-use Prim.Native.Nat.{ℕ, _+_, _/_, _%_, _≤_}
+use Prim.Native.Nat.{ℕ, _+_, _/_, _%_, _≤_, _-_}
 use mathlib.Core.Bool.{Bool, cond, _&&_, _||_}
 use mathlib.Core.List.{List, [], _∷_, _++_}
 use lib.Dec.{T, leb, eqb}
@@ -13,8 +13,31 @@ use Rattle.paper.specs.Lists.{any}
 abbrev pub between : ℕ → ℕ → ℕ → Bool
 between lo hi a = leb lo a && leb a hi
 
+-- surrogates, the last scalar value, and three characters that a bound makes a case of
+abbrev pub firstSurrogate : ℕ
+firstSurrogate = 0xD800
+
+abbrev pub lastSurrogate : ℕ
+lastSurrogate = 0xDFFF
+
+abbrev pub lastScalar : ℕ
+lastScalar = 0x10FFFF
+
+abbrev pub replacement : ℕ
+replacement = 0xFFFD
+
+abbrev pub byteOrderMark : ℕ
+byteOrderMark = 0xFEFF
+
+abbrev pub swappedMark : ℕ
+swappedMark = 0xFFFE
+
+abbrev pub isSurrogate : ℕ → Bool
+isSurrogate c = between firstSurrogate lastSurrogate c
+
+-- RFC 3629: "0 to D7FF and E000 to 10FFFF"
 unfoldable pub isScalar : ℕ → Bool
-isScalar c = between 0 0xD7FF c || between 0xE000 0x10FFFF c
+isScalar c = between 0 (firstSurrogate - 1) c || between (lastSurrogate + 1) lastScalar c
 
 abbrev pub IsScalar : ℕ → Type 0
 IsScalar c = T (isScalar c)
