@@ -12,7 +12,7 @@ use borrow.Author.Tests.{eqb-false}
 use Rattle.paper.specs.Sizes.{maxU16, maxU32}
 use Rattle.paper.specs.Refusals.{boundMark}
 use Rattle.paper.specs.Lists.{all, full, nothingOr, push, words, until, trimStart, trimEnd}
-use Rattle.paper.specs.Text.Scalar.{isWhite, isSep, dot, digit0, letterX, byteOrderMark, swappedMark}
+use Rattle.paper.specs.Text.Scalar.{isWhite, isSep, dot, digit0, letterX, byteOrderMark, swappedMark, tab, formFeed, cr, space}
 use Rattle.paper.specs.Numbers.Numeral.{decimal, hexadecimal}
 use Rattle.paper.specs.CharDef.Line.{Line, blank, category, range, isHash, isNameChar, isFieldChar, comment, begins0x, beginsWhite, zeroXs, standsFor, Bound, Bounds, one-bound, two-bounds, Names, LineFits}
 use Rattle.paper.specs.CharDef.Line as line
@@ -152,22 +152,22 @@ field-char c a b = yes-and (un isSep c) (un isHash c) a b
 
 pub sep-white : (c : ℕ) → T (isSep c) → T (isWhite c)
 unfolding isSep isWhite
-sep-white c t = go (or-yes (eqb c 9 || eqb c 12 || eqb c 13) (eqb c 32) t)
+sep-white c t = go (or-yes (eqb c tab || eqb c formFeed || eqb c cr) (eqb c space) t)
   where
     at : (k : ℕ) → T (isWhite k) → T (eqb c k) → T (isWhite c)
     at k w e = rw (eqb→eq c k e) w
 
-    go₂ : T (eqb c 9) ⊎ T (eqb c 12) → T (isWhite c)
-    go₂ (inl e) = at 9 tt e
-    go₂ (inr e) = at 12 tt e
+    go₂ : T (eqb c tab) ⊎ T (eqb c formFeed) → T (isWhite c)
+    go₂ (inl e) = at tab tt e
+    go₂ (inr e) = at formFeed tt e
 
-    go₁ : T (eqb c 9 || eqb c 12) ⊎ T (eqb c 13) → T (isWhite c)
-    go₁ (inl e) = go₂ (or-yes (eqb c 9) (eqb c 12) e)
-    go₁ (inr e) = at 13 tt e
+    go₁ : T (eqb c tab || eqb c formFeed) ⊎ T (eqb c cr) → T (isWhite c)
+    go₁ (inl e) = go₂ (or-yes (eqb c tab) (eqb c formFeed) e)
+    go₁ (inr e) = at cr tt e
 
-    go : T (eqb c 9 || eqb c 12 || eqb c 13) ⊎ T (eqb c 32) → T (isWhite c)
-    go (inl e) = go₁ (or-yes (eqb c 9 || eqb c 12) (eqb c 13) e)
-    go (inr e) = at 32 tt e
+    go : T (eqb c tab || eqb c formFeed || eqb c cr) ⊎ T (eqb c space) → T (isWhite c)
+    go (inl e) = go₁ (or-yes (eqb c tab || eqb c formFeed) (eqb c cr) e)
+    go (inr e) = at space tt e
 
 names-sound : {r : List ℕ} {fs : List (List ℕ)} → Spread isWhite r fs → T (nothingOr isWhite r) → T (all (un isHash) r)
     → (named after : List ℕ) × (r ≡ named ++ after) × Names named fs × T (all isWhite after)

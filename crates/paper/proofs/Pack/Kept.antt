@@ -8,7 +8,7 @@ use mathlib.Core.Bool.{Bool, true, false, not, cond, _&&_, _||_}
 use mathlib.Core.List.{List, [], _∷_, _++_, map}
 use lib.Dec.{T, leb, ltb, eqb, eqb→eq}
 use mir.Facts.{and-yes, yes-and, T-not, not-T, yes-leb, yes-ltb}
-use Rattle.paper.specs.Sizes.{maxU32}
+use Rattle.paper.specs.Sizes.{maxU32, maxU16}
 use Rattle.paper.specs.Lists.{all, full, any, joined, freshAfter, firstSeen, same}
 use Rattle.paper.specs.Text.Scalar.{lf, between, isScalar, utf8Of, utf8, WellFormed, byteOrderMark, swappedMark, replacement, firstSurrogate, lastSurrogate}
 use Rattle.paper.specs.CharDef.Line.{Line, blank, category, range, standsFor, Bound, Bounds, one-bound, two-bounds, Names, no-names, more-names, isNameChar, isFieldChar, LineFits}
@@ -117,21 +117,21 @@ line-sized : (cs : List ℕ) (l : Line) → LineFits cs l → T (all isScalar cs
 unfolding definitionsOf
 line-sized cs blank f a = tt
 line-sized cs (category name i g n) f a =
-    let h : n ≤ 0xFFFF_FFFF = f .lengths .fits in
+    let h : n ≤ maxU32 = f .lengths .fits in
     let k : n < maxU32 + 1 = omega arith in
     yes-and (ltb n (maxU32 + 1)) true (yes-ltb k) tt
 line-sized cs (range lower upper names) f a = tt
 
-stands-bound : (c : ℕ) → c ≤ 0xFFFF → c ≢ byteOrderMark → c ≢ swappedMark → T (isBound (standsFor c))
+stands-bound : (c : ℕ) → c ≤ maxU16 → c ≢ byteOrderMark → c ≢ swappedMark → T (isBound (standsFor c))
 unfolding standsFor isBound
 stands-bound c h m s = go (between firstSurrogate lastSurrogate c) refl
   where
     go : (b : Bool) → between firstSurrogate lastSurrogate c ≡ b → T (isBound (cond b replacement c))
     go true e = tt
     go false e =
-        yes-and (leb c 0xFFFF && not (between firstSurrogate lastSurrogate c) && not (eqb c byteOrderMark)) (not (eqb c swappedMark))
-        (yes-and (leb c 0xFFFF && not (between firstSurrogate lastSurrogate c)) (not (eqb c byteOrderMark))
-        (yes-and (leb c 0xFFFF) (not (between firstSurrogate lastSurrogate c)) (yes-leb h) (false→T _ e))
+        yes-and (leb c maxU16 && not (between firstSurrogate lastSurrogate c) && not (eqb c byteOrderMark)) (not (eqb c swappedMark))
+        (yes-and (leb c maxU16 && not (between firstSurrogate lastSurrogate c)) (not (eqb c byteOrderMark))
+        (yes-and (leb c maxU16) (not (between firstSurrogate lastSurrogate c)) (yes-leb h) (false→T _ e))
         (not-T (eqb c byteOrderMark) (λ u. m (eqb→eq c byteOrderMark u))))
         (not-T (eqb c swappedMark) (λ u. s (eqb→eq c swappedMark u)))
 

@@ -15,7 +15,7 @@ use Rattle.paper.specs.Sizes.{maxCategories, maxNameBytes, maxCategoryLi
 use Rattle.paper.specs.Refusals.{packVersion, packRule, packLeftOver}
 use Rattle.paper.specs.Lists.{all, any, joined, same}
 use Rattle.paper.specs.Text.Scalar.{In, WellFormed, nothing, utf8-1, utf8-2, utf8-3-E0, utf8-3-E1, utf8-3-ED, utf8-3-EE, utf8-4-F0, utf8-4-F1, utf8-4-F4}
-use Rattle.paper.specs.Numbers.Bytes.{isByte}
+use Rattle.paper.specs.Numbers.Bytes.{isByte, byteLimit}
 use Rattle.paper.specs.CharDef.Reading.{Definition, Range, Reading, nameBytes, references, Within, accepted}
 use Rattle.paper.specs.Pack.Fields.{version, versionWidth, categoriesWidth, linesWidth, rangesWidth, referencesWidth, nameLengthWidth, byteWidth, flagWidth, lengthWidth, boundWidth, countWidth, numberWidth, Field, flag, field, nameFields, definitionFields, rangeFields, packFields, bits, spell, packBits, inBytes, packBytes, bitsOf}
 use Rattle.paper.specs.Pack.Rules.{numbered, hasBytes, onceAfter, isBound, bounded, sized, PackRules}
@@ -195,8 +195,8 @@ spell-map w (n ∷ ns) = ap (λ l. bits w n ++ l) (spell-map w ns)
 
 -- ---- names
 
-in-byte : {lo hi a : ℕ} → hi ≤ 255 → In lo hi a → T (isByte a)
-in-byte {lo} {hi} {a} h i = let k : a < 256 = omega arith in yes-ltb k
+in-byte : {lo hi a : ℕ} → hi < byteLimit → In lo hi a → T (isByte a)
+in-byte {lo} {hi} {a} h i = let k : a < byteLimit = omega arith in yes-ltb k
 
 three-bytes : (a b c : ℕ) (s : List ℕ) → T (isByte a) → T (isByte b) → T (isByte c) → T (all isByte s) → T (all isByte (a ∷ b ∷ c ∷ s))
 three-bytes a b c s i j k w = yes-and (isByte a) _ i (yes-and (isByte b) _ j (yes-and (isByte c) _ k w))
