@@ -11,17 +11,18 @@ use mir.Facts.{and-yes, yes-and, or-yes, T-not, not-T}
 use borrow.Author.Tests.{eqb-false}
 use Rattle.paper.specs.Sizes.{maxU16, maxU32}
 use Rattle.paper.specs.Refusals.{boundMark}
-use Rattle.paper.specs.Lists.{all, full, nothingOr, push, words, until, trimStart, trimEnd}
+use Rattle.paper.specs.Lists.{all, full, nothingOr, words, until, trimStart, trimEnd}
 use Rattle.paper.specs.Text.Scalar.{isWhite, isSep, dot, digit0, letterX, byteOrderMark, swappedMark, tab, formFeed, cr, space}
 use Rattle.paper.specs.Numbers.Numeral.{decimal, hexadecimal}
 use Rattle.paper.specs.CharDef.Line.{Line, blank, category, range, isHash, isNameChar, isFieldChar, comment, begins0x, beginsWhite, zeroXs, standsFor, Bound, Bounds, one-bound, two-bounds, Names, LineFits}
 use Rattle.paper.specs.CharDef.Line as line
 use Rattle.paper.specs.Computed.Numeral.{numeral}
-use Rattle.paper.specs.Computed.ReadText.{found, BoundFound, noBound, strip0x, parts, checkedBound, boundOf, fromBounds, fromParts, rangeOf, fromNumbers, categoryOf, body, bodyLine, lineOf}
+use Rattle.paper.specs.Computed.ReadText.{found, BoundFound, noBound, strip0x, checkedBound, boundOf, fromBounds, fromParts, rangeOf, fromNumbers, categoryOf, body, bodyLine, lineOf}
 use Rattle.paper.proofs.Apart.{wrong-found, none-bound}
 use Rattle.paper.proofs.Lists.Facts.{true→T, apart, all-append, all-imp, un, false→T, all-left, all-right}
 use Rattle.paper.proofs.Lists.Pieces.{until-rest, trimStart-rest, trimEnd-rest, Spread, run, word, words-spread}
 use Rattle.paper.proofs.Numbers.Read.{numeral-sound}
+use Rattle.paper.proofs.CharDef.Dots.{Cuts, uncut, cut-at, parts-cuts}
 
 -- ---- bounds
 
@@ -68,29 +69,6 @@ bound-sound least cs v h m = go (numeral hexadecimal maxU16 (strip0x cs)) refl h
     go none n h = none-bound h
     go (some c) n h = some-case c n (eqb c byteOrderMark) (eqb c swappedMark) refl refl h
 
-data Dotted : List ℕ → List (List ℕ) → Type 0 where
-  lone : {cs : List ℕ} → Dotted cs (cs ∷ [])
-  dots : {cs l : List ℕ} {ls : List (List ℕ)} (r : List ℕ) → cs ≡ l ++ (dot ∷ dot ∷ r) → Dotted r ls → Dotted cs (l ∷ ls)
-
-push-dotted : (x : ℕ) {cs : List ℕ} {ls : List (List ℕ)} → Dotted cs ls → Dotted (x ∷ cs) (push x ls)
-push-dotted x lone = lone
-push-dotted x (dots r e d) = dots r (ap (λ l. x ∷ l) e) d
-
-parts-dotted : (cs : List ℕ) → Dotted cs (parts cs)
-parts-dotted [] = lone
-parts-dotted (c ∷ []) = lone
-parts-dotted (c ∷ d ∷ cs) = step (eqb c dot && eqb d dot) refl (parts-dotted cs) (parts-dotted (d ∷ cs))
-  where
-    step : (b : Bool) → (eqb c dot && eqb d dot) ≡ b → Dotted cs (parts cs) → Dotted (d ∷ cs) (parts (d ∷ cs))
-        → Dotted (c ∷ d ∷ cs) (cond b ([] ∷ parts cs) (push c (parts (d ∷ cs))))
-    step true e q r =
-        let t = and-yes (eqb c dot) (eqb d dot) (true→T _ e) in
-        let cd : c ≡ dot = eqb→eq c dot (t .0) in
-        let dd : d ≡ dot = eqb→eq d dot (t .1) in
-        let whole : c ∷ d ∷ cs ≡ dot ∷ dot ∷ cs = cc in
-        dots cs whole q
-    step false e q r = push-dotted c r
-
 -- both bounds were read
 edges : (x y : BoundFound) (names : List (List ℕ)) (l : Line) → fromBounds x y names ≡ found l
     → (lo hi : ℕ) × (x ≡ BoundFound.boundIs lo) × (y ≡ BoundFound.boundIs hi) × (l ≡ range lo hi names)
@@ -103,17 +81,17 @@ dots-0x [] r t = t
 dots-0x (c ∷ []) r t = and-yes (eqb c digit0) (eqb dot letterX) t .1
 dots-0x (c ∷ d ∷ a) r t = t
 
-bounds-sound : (f : List ℕ) (names : List (List ℕ)) (l : Line) → T (begins0x f) → {ls : List (List ℕ)} → Dotted f ls
+bounds-sound : (f : List ℕ) (names : List (List ℕ)) (l : Line) → T (begins0x f) → {ls : List (List ℕ)} → Cuts f ls
     → fromParts ls names ≡ found l → (lo hi : ℕ) × Bounds f lo hi × (l ≡ range lo hi names)
 unfolding fromParts
-bounds-sound f names l z lone h =
+bounds-sound f names l z (uncut n) h =
     let (lo, hi, x, y, e) = edges (boundOf f) (boundOf f) names l h in
     (lo, hi, one-bound (bound-sound 1 f lo x (λ k g. g z)) (cc), e)
-bounds-sound f names l z (dots {l = a} r w lone) h =
+bounds-sound f names l z (cut-at {l = a} r w m (uncut n)) h =
     let (lo, hi, x, y, e) = edges (boundOf a) (boundOf r) names l h in
     (lo, hi, two-bounds a r w (bound-sound 1 a lo x (λ k g. g (dots-0x a r (subst (λ s. T (begins0x s)) w z)))) (bound-sound 0 r hi y (λ k g. zero-le)), e)
-bounds-sound f names l z (dots r w (dots s v lone)) h = wrong-found h
-bounds-sound f names l z (dots r w (dots s v (dots t u d))) h = wrong-found h
+bounds-sound f names l z (cut-at r w m (cut-at s v n (uncut o))) h = wrong-found h
+bounds-sound f names l z (cut-at r w m (cut-at s v n (cut-at t u o d))) h = wrong-found h
 
 -- ---- words and their gaps
 
@@ -255,7 +233,7 @@ range-sound cs core l a z (word {f = f} {fs = fs} w r e aw n k q) h =
     let z0 : T (begins0x f) = word-0x f r n k (subst (λ x. T (begins0x x)) e0 z) in
     let nh : T (all (un isHash) r) = all-right (un isHash) f r (subst (λ x. T (all (un isHash) x)) e0 (a .no-hash)) in
     let (named, after, e₁, ns, wa) = names-sound q k nh in
-    let (lo, hi, bs, el) = bounds-sound f fs l z0 (parts-dotted f) h in
+    let (lo, hi, bs, el) = bounds-sound f fs l z0 (parts-cuts f) h in
     let regroup : a .before ++ (f ++ (named ++ after) ++ (a .after ++ a .rest)) ≡ a .before ++ (f ++ (named ++ (after ++ a .after ++ a .rest))) = simp append-assoc in
     let fits : LineFits cs (range lo hi fs) =
     record {

@@ -40,12 +40,15 @@ digit-small base c b t = go (between digit0 digit9 c) (between upperA upperF c) 
     go false true z f g h u = let k : c ≤ upperF = leb-yes (and-yes (leb upperA c) (leb c upperF) (g tt) .1) in omega arith
     go false false true f g h u = let k : c ≤ lowerF = leb-yes (and-yes (leb lowerA c) (leb c lowerF) (h tt) .1) in omega arith
     go false false false f g h u = let k : noDigit < base = ltb-yes u in omega arith
+
 pub digit-hex : (base c : ℕ) → base ≤ noDigit → T (isDigit base c) → T (isDigit hexadecimal c)
 unfolding isDigit
 digit-hex base c b t = yes-ltb (lt-of-lt-of-le (ltb-yes t) b)
+
 -- a digit is none of the characters that 16's digits are not
 pub digit-apart : (base k : ℕ) → base ≤ noDigit → isDigit hexadecimal k ≡ false → (c : ℕ) → T (isDigit base c) → T (not (eqb c k))
 digit-apart base k b e c t = apart (isDigit hexadecimal) k e c (digit-hex base c b t)
+
 -- ---- what is read is spelled
 
 module _ (base limit : ℕ) where
@@ -77,6 +80,7 @@ module _ (base limit : ℕ) where
       step false e h =
           let r = spelled-sound (c ∷ cs) n h in
           record { sign = []; digits = c ∷ cs; whole = refl; signed = tt; spelled = r .0; value = r .1; fits = r .2 }
+
 -- ---- what is spelled is read
 
 module _ (base limit : ℕ) (b16 : base ≤ noDigit) where

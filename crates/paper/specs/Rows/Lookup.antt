@@ -99,6 +99,7 @@ pub record GivesPart (t : LookupTables) (l : List ℕ) (a : Looked Part) : Type 
   pub part : Part
   pub given : a ≡ gives part
   pub holds : content t part ≡ l
+
 -- ---- the packed lookup: "beyond the BMP or with an empty index .. absent and not refused"
 
 unfoldable pub packedAt : List ℕ → ℕ → Looked (Option ℕ)
