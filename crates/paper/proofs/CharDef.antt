@@ -1,3 +1,4 @@
+pub mod Chars
 pub mod Dots
 pub mod Complete
 pub mod Sound

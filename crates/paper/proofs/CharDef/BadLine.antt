@@ -23,8 +23,9 @@ use Rattle.paper.specs.Computed.ReadText.{Found, found, wrong, BoundFoun
 use Rattle.paper.proofs.Apart.{zero-one, none-some, wrong-found, refused-accepted}
 use Rattle.paper.proofs.Lists.Facts.{T→true, T→false, true→T, false→T}
 use Rattle.paper.proofs.Numbers.Read.{numeral-sound, numeral-read, decimal-small}
+use Rattle.paper.proofs.CharDef.Chars.{sep-white}
 use Rattle.paper.proofs.CharDef.Dots.{Cuts, uncut, cut-at, parts-cuts}
-use Rattle.paper.proofs.CharDef.Sound.{line-sound, sep-white}
+use Rattle.paper.proofs.CharDef.Sound.{line-sound}
 use Rattle.paper.proofs.CharDef.Complete.{line-complete, bound-read, range-body, category-body}
 use Rattle.paper.proofs.CharDef.Whole.{lines-sound, lines-complete}
 use Rattle.paper.proofs.CharDef.Bodies.{has-body, body-is, fields-words, has-fields}

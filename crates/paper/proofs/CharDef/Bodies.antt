@@ -13,9 +13,8 @@ use Rattle.paper.specs.CharDef.Line.{isHash}
 use Rattle.paper.specs.CharDef.BadLine.{endsWhite, Body, Fields, last-field, more-fields}
 use Rattle.paper.specs.Computed.ReadText.{body}
 use Rattle.paper.proofs.Lists.Facts.{true→T, all-append, full-all, all-imp, un, until-append, trimStart-append, trimEnd-append, words-word, words-run, false→T}
-use Rattle.paper.proofs.Lists.Pieces.{Spread, run, word, words-spread}
-use Rattle.paper.proofs.CharDef.Complete.{white-no-hash, full-opens}
-use Rattle.paper.proofs.CharDef.Sound.{gap-full}
+use Rattle.paper.proofs.Lists.Pieces.{Spread, run, word, words-spread, gap-full, full-opens}
+use Rattle.paper.proofs.CharDef.Chars.{white-no-hash}
 
 -- ---- ends
 

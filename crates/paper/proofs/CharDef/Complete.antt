@@ -2,65 +2,25 @@
 -- Assumes nothing.
 use Prim.Native.Nat.{ℕ, zero, suc, _-_, _≤_}
 use mathlib.Core.Path.{_≡_, refl, sym, ap, _∙_, subst}
-use mathlib.Core.Bool.{Bool, true, false, not, _&&_, _||_}
+use mathlib.Core.Bool.{Bool, true, false, not, _&&_}
 use mathlib.Core.List.{List, [], _∷_, _++_, append-assoc, append-nil}
 use lib.Dec.{T, eqb, eqb→eq}
 use mir.Facts.{and-yes, yes-and, T-not, not-T}
 use borrow.Author.Tests.{ne-eqb}
 use Rattle.paper.specs.Sizes.{maxU16, maxU32}
 use Rattle.paper.specs.Lists.{empty, all, full, nothingOr, words, until, trimStart, trimEnd}
-use Rattle.paper.specs.Text.Scalar.{isWhite, isSep, hash, plusSign, dot, digit0, letterX, byteOrderMark, swappedMark}
-use Rattle.paper.specs.Numbers.Numeral.{isDigit, plus, Numeral, decimal, hexadecimal, noDigit}
+use Rattle.paper.specs.Text.Scalar.{isWhite, isSep, plusSign, dot, digit0, letterX, byteOrderMark, swappedMark}
+use Rattle.paper.specs.Numbers.Numeral.{isDigit, plus, Numeral, decimal, hexadecimal}
 use Rattle.paper.specs.CharDef.Line.{Line, blank, category, range, isHash, isNameChar, isFieldChar, comment, begins0x, beginsWhite, zeroXs, Bound, Bounds, one-bound, two-bounds, Names, BlankLine, RangeLine, CategoryLine, LineFits}
 use Rattle.paper.specs.CharDef.Line as line
+use Rattle.paper.specs.CharDef.BadLine.{Body}
 use Rattle.paper.specs.Computed.Numeral.{numeral}
 use Rattle.paper.specs.Computed.ReadText.{found, BoundFound, strip0x, parts, boundOf, fromParts, rangeOf, categoryOf, body, bodyLine, lineOf}
-use Rattle.paper.proofs.Lists.Facts.{T→false, apart, from-below, all-append, full-all, all-imp, full-imp, un, until-append, trimStart-append, trimEnd-append, words-word, words-run}
-use Rattle.paper.proofs.Numbers.Read.{digit-small, digit-hex, digit-apart, numeral-chars, numeral-read, decimal-small, hex-small, pastDigits}
-
--- ---- characters
-
--- p's characters are q's, as a test
-abbrev imp : (ℕ → Bool) → (ℕ → Bool) → ℕ → Bool
-imp p q c = not (p c) || q c
-
-use-imp : (a b : Bool) → T (not a || b) → T a → T b
-use-imp true b t h = t
-use-imp false b t h = absurd h
-
-pub white-no-hash : (c : ℕ) → T (isWhite c) → T (un isHash c)
-unfolding isWhite
-white-no-hash = apart isWhite hash refl
-
-sep-no-hash : (c : ℕ) → T (isSep c) → T (un isHash c)
-unfolding isSep
-sep-no-hash = apart isSep hash refl
-
-name-no-hash : (c : ℕ) → T (isNameChar c) → T (un isHash c)
-unfolding isNameChar
-name-no-hash c t = and-yes (not (isWhite c)) (not (isHash c)) t .1
-
-name-no-white : (c : ℕ) → T (isNameChar c) → T (un isWhite c)
-unfolding isNameChar
-name-no-white c t = and-yes (not (isWhite c)) (not (isHash c)) t .0
-
-field-no-hash : (c : ℕ) → T (isFieldChar c) → T (un isHash c)
-unfolding isFieldChar
-field-no-hash c t = and-yes (not (isSep c)) (not (isHash c)) t .1
-
-field-no-sep : (c : ℕ) → T (isFieldChar c) → T (un isSep c)
-unfolding isFieldChar
-field-no-sep c t = and-yes (not (isSep c)) (not (isHash c)) t .0
-
-digit-name : (base : ℕ) → base ≤ noDigit → (c : ℕ) → T (isDigit base c) → T (isNameChar c)
-unfolding isDigit isNameChar
-digit-name base b c t =
-    use-imp (isDigit hexadecimal c) (isNameChar c) (from-below (imp (isDigit hexadecimal) isNameChar) pastDigits tt c (digit-small base c b t)) (digit-hex base c b t)
-
-digit-field : (base : ℕ) → base ≤ noDigit → (c : ℕ) → T (isDigit base c) → T (isFieldChar c)
-unfolding isDigit isFieldChar
-digit-field base b c t =
-    use-imp (isDigit hexadecimal c) (isFieldChar c) (from-below (imp (isDigit hexadecimal) isFieldChar) pastDigits tt c (digit-small base c b t)) (digit-hex base c b t)
+use Rattle.paper.proofs.Lists.Facts.{T→false, all-append, full-all, all-imp, full-imp, un, until-append, trimStart-append, trimEnd-append, words-word, words-run}
+use Rattle.paper.proofs.Lists.Pieces.{full-opens}
+use Rattle.paper.proofs.Numbers.Read.{digit-apart, numeral-chars, numeral-read, decimal-small, hex-small}
+use Rattle.paper.proofs.CharDef.Bodies.{body-is}
+use Rattle.paper.proofs.CharDef.Chars.{white-no-hash, sep-no-hash, sep-no-x, name-no-hash, name-no-white, field-no-hash, field-no-sep, digit-name, digit-field}
 
 -- ---- bounds
 
@@ -167,10 +127,6 @@ bounds-0x s (two-bounds l r w a b) = rw (w, append-assoc) (bound-0x ((dot ∷ do
 
 -- ---- names
 
-pub full-opens : (p : ℕ → Bool) (w r : List ℕ) → T (full p w) → T (nothingOr p (w ++ r))
-full-opens p [] r a = absurd a
-full-opens p (c ∷ w) r a = and-yes (p c) (all p w) a .0
-
 names-edge : {cs : List ℕ} {ns : List (List ℕ)} → Names cs ns → T (nothingOr isWhite cs)
 names-edge (line.no-names e) = rw e tt
 names-edge (line.more-names {name = n} w r e fw fn t) = rw e (full-opens isWhite w (n ++ r) fw)
@@ -218,13 +174,6 @@ body-of before core after rest wb nh wa cm op trimmed =
     ∙ ap (trimEnd isWhite) (trimStart-append isWhite before (core ++ after) wb op)
     ∙ trimmed
 
-body-blank : (white rest : List ℕ) → T (all isWhite white) → T (comment rest) → body (white ++ rest) ≡ []
-unfolding body
-body-blank white rest w c =
-    ap (λ l. trimEnd isWhite (trimStart isWhite l)) (until-append isHash white rest (all-imp isWhite (un isHash) white-no-hash white w) c)
-    ∙ ap (λ l. trimEnd isWhite (trimStart isWhite l)) (sym (append-nil white))
-    ∙ ap (trimEnd isWhite) (trimStart-append isWhite white [] w tt)
-
 pub range-body : (s : List ℕ) → begins0x s ≡ true → bodyLine s ≡ rangeOf (words isWhite s)
 unfolding bodyLine
 range-body [] e = absurd (subst T (sym e) tt)
@@ -237,7 +186,11 @@ category-body (c ∷ s) n e = rw e
 
 blank-complete : {cs : List ℕ} → BlankLine cs → lineOf cs ≡ found blank
 unfolding lineOf
-blank-complete l = rw (l .whole, body-blank (l .white) (l .rest) (l .isWhites) (l .isComment))
+blank-complete {cs} l = ap bodyLine (body-is cs [] none)
+  where
+    none : Body cs []
+    none =
+        record { before = l .white; after = []; rest = l .rest; whole = l .whole; whiteBefore = l .isWhites; noHash = tt; opens = tt; closes = tt; whiteAfter = tt; isComment = l .isComment }
 
 range-complete : {cs : List ℕ} {lower upper : ℕ} {names : List (List ℕ)} → RangeLine cs lower upper names
     → lineOf cs ≡ found (range lower upper names)
@@ -274,10 +227,6 @@ flag-name : {cs : List ℕ} {n : ℕ} → Numeral decimal maxU32 cs n → T (ful
 flag-name r = numeral-chars decimal maxU32 decimal-small isNameChar (unfold isNameChar in tt) (digit-name decimal decimal-small) r
 
 -- a name and a separator do not begin `0x` where the name does not
-sep-no-x : (c : ℕ) → T (isSep c) → T (not (eqb c letterX))
-unfolding isSep
-sep-no-x = apart isSep letterX refl
-
 name-no-0x : (name gap s : List ℕ) → T (full isFieldChar name) → T (not (begins0x name)) → T (full isSep gap) → begins0x (name ++ (gap ++ s)) ≡ false
 name-no-0x [] gap s f n g = absurd f
 name-no-0x (c ∷ []) [] s f n g = absurd g

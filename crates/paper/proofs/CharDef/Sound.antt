@@ -2,26 +2,28 @@
 -- Assumes nothing.
 use Prim.Native.Nat.{ℕ, suc, _≤_, zero-le, suc-le-suc}
 use mathlib.Core.Path.{_≡_, refl, sym, ap, _∙_, subst}
-use mathlib.Core.Logic.{_⊎_, inl, inr}
 use mathlib.Core.Bool.{Bool, true, false, not, cond, _&&_, _||_}
 use mathlib.Core.Option.{Option, none, some}
 use mathlib.Core.List.{List, [], _∷_, _++_, append-assoc}
 use lib.Dec.{T, eqb, eqb→eq}
-use mir.Facts.{and-yes, yes-and, or-yes, T-not, not-T}
+use mir.Facts.{and-yes, T-not, not-T}
 use borrow.Author.Tests.{eqb-false}
 use Rattle.paper.specs.Sizes.{maxU16, maxU32}
 use Rattle.paper.specs.Refusals.{boundMark}
-use Rattle.paper.specs.Lists.{all, full, nothingOr, words, until, trimStart, trimEnd}
-use Rattle.paper.specs.Text.Scalar.{isWhite, isSep, dot, digit0, letterX, byteOrderMark, swappedMark, tab, formFeed, cr, space}
+use Rattle.paper.specs.Lists.{all, full, nothingOr, words}
+use Rattle.paper.specs.Text.Scalar.{isWhite, isSep, dot, digit0, letterX, byteOrderMark, swappedMark}
 use Rattle.paper.specs.Numbers.Numeral.{decimal, hexadecimal}
-use Rattle.paper.specs.CharDef.Line.{Line, blank, category, range, isHash, isNameChar, isFieldChar, comment, begins0x, beginsWhite, zeroXs, standsFor, Bound, Bounds, one-bound, two-bounds, Names, LineFits}
+use Rattle.paper.specs.CharDef.Line.{Line, blank, category, range, isHash, isNameChar, isFieldChar, begins0x, beginsWhite, zeroXs, standsFor, Bound, Bounds, one-bound, two-bounds, Names, LineFits}
 use Rattle.paper.specs.CharDef.Line as line
+use Rattle.paper.specs.CharDef.BadLine.{Body}
 use Rattle.paper.specs.Computed.Numeral.{numeral}
-use Rattle.paper.specs.Computed.ReadText.{found, BoundFound, noBound, strip0x, checkedBound, boundOf, fromBounds, fromParts, rangeOf, fromNumbers, categoryOf, body, bodyLine, lineOf}
+use Rattle.paper.specs.Computed.ReadText.{found, BoundFound, noBound, strip0x, checkedBound, boundOf, fromBounds, fromParts, rangeOf, fromNumbers, categoryOf, bodyLine, lineOf}
 use Rattle.paper.proofs.Apart.{wrong-found, none-bound}
-use Rattle.paper.proofs.Lists.Facts.{true→T, apart, all-append, all-imp, un, false→T, all-left, all-right}
-use Rattle.paper.proofs.Lists.Pieces.{until-rest, trimStart-rest, trimEnd-rest, Spread, run, word, words-spread}
+use Rattle.paper.proofs.Lists.Facts.{true→T, all-append, all-imp, un, false→T, all-left, all-right}
+use Rattle.paper.proofs.Lists.Pieces.{Spread, run, word, words-spread, gap-full, gap-none, both-full, clash}
 use Rattle.paper.proofs.Numbers.Read.{numeral-sound}
+use Rattle.paper.proofs.CharDef.Bodies.{has-body, body-is}
+use Rattle.paper.proofs.CharDef.Chars.{sep-white, white-no-x, name-char, field-char}
 use Rattle.paper.proofs.CharDef.Dots.{Cuts, uncut, cut-at, parts-cuts}
 
 -- ---- bounds
@@ -95,58 +97,6 @@ bounds-sound f names l z (cut-at r w m (cut-at s v n (cut-at t u o d))) h = wron
 
 -- ---- words and their gaps
 
-clash {ℓ} : {X : Type ℓ} (b : Bool) → T b → T (not b) → X
-clash b t u = absurd (T-not b t u)
-
--- a run between a place that begins with a separator and a word is not empty
-pub gap-full : (p : ℕ → Bool) (w f r : List ℕ) → T (nothingOr p (w ++ (f ++ r))) → T (full (un p) f) → T (all p w) → T (full p w)
-gap-full p [] [] r g h a = absurd h
-gap-full p [] (c ∷ f) r g h a = clash (p c) g (and-yes (un p c) (all (un p) f) h .0)
-gap-full p (c ∷ w) f r g h a = a
-
--- a run where a text opens with no such character is empty
-gap-none : (p q : ℕ → Bool) → ((c : ℕ) → T (p c) → T (q c)) → (w s : List ℕ) → T (nothingOr (un q) (w ++ s)) → T (all p w) → w ≡ []
-gap-none p q f [] s g a = refl
-gap-none p q f (c ∷ w) s g a = clash (q c) (f c (and-yes (p c) (all p w) a .0)) g
-
-both-full : (p q r : ℕ → Bool) → ((c : ℕ) → T (p c) → T (q c) → T (r c)) → (s : List ℕ) → T (full p s) → T (all q s) → T (full r s)
-both-full p q r f [] a b = absurd a
-both-full p q r f (c ∷ s) a b = go (c ∷ s) a b
-  where
-    go : (s : List ℕ) → T (all p s) → T (all q s) → T (all r s)
-    go [] a b = tt
-    go (c ∷ s) a b =
-        let h = and-yes (p c) (all p s) a in
-        let g = and-yes (q c) (all q s) b in
-        yes-and (r c) (all r s) (f c (h .0) (g .0)) (go s (h .1) (g .1))
-
-name-char : (c : ℕ) → T (un isWhite c) → T (un isHash c) → T (isNameChar c)
-unfolding isNameChar
-name-char c a b = yes-and (un isWhite c) (un isHash c) a b
-
-field-char : (c : ℕ) → T (un isSep c) → T (un isHash c) → T (isFieldChar c)
-unfolding isFieldChar
-field-char c a b = yes-and (un isSep c) (un isHash c) a b
-
-pub sep-white : (c : ℕ) → T (isSep c) → T (isWhite c)
-unfolding isSep isWhite
-sep-white c t = go (or-yes (eqb c tab || eqb c formFeed || eqb c cr) (eqb c space) t)
-  where
-    at : (k : ℕ) → T (isWhite k) → T (eqb c k) → T (isWhite c)
-    at k w e = rw (eqb→eq c k e) w
-
-    go₂ : T (eqb c tab) ⊎ T (eqb c formFeed) → T (isWhite c)
-    go₂ (inl e) = at tab tt e
-    go₂ (inr e) = at formFeed tt e
-
-    go₁ : T (eqb c tab || eqb c formFeed) ⊎ T (eqb c cr) → T (isWhite c)
-    go₁ (inl e) = go₂ (or-yes (eqb c tab) (eqb c formFeed) e)
-    go₁ (inr e) = at cr tt e
-
-    go : T (eqb c tab || eqb c formFeed || eqb c cr) ⊎ T (eqb c space) → T (isWhite c)
-    go (inl e) = go₁ (or-yes (eqb c tab || eqb c formFeed) (eqb c cr) e)
-    go (inr e) = at space tt e
-
 names-sound : {r : List ℕ} {fs : List (List ℕ)} → Spread isWhite r fs → T (nothingOr isWhite r) → T (all (un isHash) r)
     → (named after : List ℕ) × (r ≡ named ++ after) × Names named fs × T (all isWhite after)
 names-sound {r} (run a) g h = ([], r, refl, line.no-names refl, a)
@@ -165,45 +115,11 @@ names-sound {r} (word {f = f} w s e a n k q) g h =
 
 -- ---- a line, from its body
 
--- the body, and what stands around it
-pub record Around (cs core : List ℕ) : Type 0 where
-  pub before : List ℕ
-  pub after : List ℕ
-  pub rest : List ℕ
-  pub whole : cs ≡ before ++ (core ++ (after ++ rest))
-  pub whiteBefore : T (all isWhite before)
-  pub opens : T (nothingOr (un isWhite) core)
-  pub no-hash : T (all (un isHash) core)
-  pub whiteAfter : T (all isWhite after)
-  pub isComment : T (comment rest)
+opening : (s : List ℕ) → T (not (beginsWhite s)) → T (nothingOr (un isWhite) s)
+opening [] t = tt
+opening (c ∷ s) t = t
 
-edge-left : (p : ℕ → Bool) (s t : List ℕ) → T (nothingOr p (s ++ t)) → T (nothingOr p s)
-edge-left p [] t g = tt
-edge-left p (c ∷ s) t g = g
-
-body-around : (cs : List ℕ) → Around cs (body cs)
-unfolding body
-body-around cs =
-    let (r, e, cm, nh) = until-rest isHash cs in
-    let u = until isHash cs in
-    let (w, e₁, wb, op) = trimStart-rest isWhite u in
-    let s = trimStart isWhite u in
-    let (v, e₂, wa) = trimEnd-rest isWhite s in
-    let b = trimEnd isWhite s in
-    let regroup : w ++ (b ++ v) ++ r ≡ w ++ (b ++ (v ++ r)) = simp append-assoc in
-    record {
-      before = w;
-      after = v;
-      rest = r;
-      whole = e ∙ ap (λ x. x ++ r) (e₁ ∙ ap (λ x. w ++ x) e₂) ∙ regroup;
-      whiteBefore = wb;
-      opens = edge-left (un isWhite) b v (subst (λ x. T (nothingOr (un isWhite) x)) e₂ op);
-      no-hash = all-left (un isHash) b v (subst (λ x. T (all (un isHash) x)) e₂ (all-right (un isHash) w s (subst (λ x. T (all (un isHash) x)) e₁ nh)));
-      whiteAfter = wa;
-      isComment = cm;
-    }
-
-blank-sound : (cs : List ℕ) → Around cs [] → LineFits cs blank
+blank-sound : (cs : List ℕ) → Body cs [] → LineFits cs blank
 blank-sound cs a =
     record {
       white = a .before ++ a .after;
@@ -213,25 +129,21 @@ blank-sound cs a =
       isComment = a .isComment;
     }
 
-white-no-x : (c : ℕ) → T (isWhite c) → T (not (eqb c letterX))
-unfolding isWhite
-white-no-x = apart isWhite letterX refl
-
 word-0x : (f r : List ℕ) → T (full (un isWhite) f) → T (nothingOr isWhite r) → T (begins0x (f ++ r)) → T (begins0x f)
 word-0x [] r a g t = absurd a
 word-0x (c ∷ []) [] a g t = t
 word-0x (c ∷ []) (d ∷ r) a g t = clash (eqb d letterX) (and-yes (eqb c digit0) (eqb d letterX) t .1) (white-no-x d g)
 word-0x (c ∷ d ∷ f) r a g t = t
 
-range-sound : (cs core : List ℕ) (l : Line) → Around cs core → T (begins0x core) → {fs : List (List ℕ)} → Spread isWhite core fs
+range-sound : (cs core : List ℕ) (l : Line) → Body cs core → T (begins0x core) → {fs : List (List ℕ)} → Spread isWhite core fs
     → rangeOf fs ≡ found l → LineFits cs l
 unfolding rangeOf
 range-sound cs core l a z (run q) h = wrong-found h
 range-sound cs core l a z (word {f = f} {fs = fs} w r e aw n k q) h =
-    let w0 : w ≡ [] = gap-none isWhite isWhite (λ c t. t) w (f ++ r) (subst (λ x. T (nothingOr (un isWhite) x)) e (a .opens)) aw in
+    let w0 : w ≡ [] = gap-none isWhite isWhite (λ c t. t) w (f ++ r) (subst (λ x. T (nothingOr (un isWhite) x)) e (opening core (a .opens))) aw in
     let e0 : core ≡ f ++ r = e ∙ ap (λ x. x ++ (f ++ r)) w0 in
     let z0 : T (begins0x f) = word-0x f r n k (subst (λ x. T (begins0x x)) e0 z) in
-    let nh : T (all (un isHash) r) = all-right (un isHash) f r (subst (λ x. T (all (un isHash) x)) e0 (a .no-hash)) in
+    let nh : T (all (un isHash) r) = all-right (un isHash) f r (subst (λ x. T (all (un isHash) x)) e0 (a .noHash)) in
     let (named, after, e₁, ns, wa) = names-sound q k nh in
     let (lo, hi, bs, el) = bounds-sound f fs l z0 (parts-cuts f) h in
     let regroup : a .before ++ (f ++ (named ++ after) ++ (a .after ++ a .rest)) ≡ a .before ++ (f ++ (named ++ (after ++ a .after ++ a .rest))) = simp append-assoc in
@@ -267,7 +179,7 @@ opens-name : (s t : List ℕ) → T (full (un isSep) s) → T (nothingOr (un isW
 opens-name [] t a g = absurd a
 opens-name (c ∷ s) t a g = g
 
-category-sound : (cs core : List ℕ) (l : Line) → Around cs core → T (not (begins0x core)) → {fs : List (List ℕ)} → Spread isSep core fs
+category-sound : (cs core : List ℕ) (l : Line) → Body cs core → T (not (begins0x core)) → {fs : List (List ℕ)} → Spread isSep core fs
     → categoryOf fs ≡ found l → LineFits cs l
 unfolding categoryOf
 category-sound cs core l a z (run q) h = wrong-found h
@@ -275,7 +187,7 @@ category-sound cs core l a z (word w r e aw n k (run q)) h = wrong-found h
 category-sound cs core l a z (word w r e aw n k (word w₁ r₁ e₁ aw₁ n₁ k₁ (run q))) h = wrong-found h
 category-sound cs core l a z (word w r e aw n k (word w₁ r₁ e₁ aw₁ n₁ k₁ (word w₂ r₂ e₂ aw₂ n₂ k₂ (run q)))) h = wrong-found h
 category-sound cs core l a z (word {f = f} w r e aw n k (word {f = f₁} w₁ r₁ e₁ aw₁ n₁ k₁ (word {f = f₂} w₂ r₂ e₂ aw₂ n₂ k₂ (word {f = f₃} w₃ r₃ e₃ aw₃ n₃ k₃ (run q))))) h =
-    let w0 : w ≡ [] = gap-none isSep isWhite sep-white w (f ++ r) (subst (λ x. T (nothingOr (un isWhite) x)) e (a .opens)) aw in
+    let w0 : w ≡ [] = gap-none isSep isWhite sep-white w (f ++ r) (subst (λ x. T (nothingOr (un isWhite) x)) e (opening core (a .opens))) aw in
     let e0 : core ≡ f ++ r = e ∙ ap (λ x. x ++ (f ++ r)) w0 in
     let (i, g, len, hi, hg, hl, el) = numbers f (numeral decimal maxU32 f₁) (numeral decimal maxU32 f₂) (numeral decimal maxU32 f₃) l h in
     let deep : core ≡ f ++ (w₁ ++ (f₁ ++ (w₂ ++ (f₂ ++ (w₃ ++ (f₃ ++ r₃)))))) =
@@ -295,8 +207,8 @@ category-sound cs core l a z (word {f = f} w r e aw n k (word {f = f₁} w₁ r�
       rest = a .rest;
       whole = a .whole ∙ ap (λ x. a .before ++ (x ++ (a .after ++ a .rest))) deep ∙ regroup;
       whiteBefore = a .whiteBefore;
-      nameChars = both-full (un isSep) (un isHash) isFieldChar field-char f n (all-left (un isHash) f r (subst (λ x. T (all (un isHash) x)) e0 (a .no-hash)));
-      nameOpens = opens-name f r n (subst (λ x. T (nothingOr (un isWhite) x)) e0 (a .opens));
+      nameChars = both-full (un isSep) (un isHash) isFieldChar field-char f n (all-left (un isHash) f r (subst (λ x. T (all (un isHash) x)) e0 (a .noHash)));
+      nameOpens = opens-name f r n (subst (λ x. T (nothingOr (un isWhite) x)) e0 (opening core (a .opens)));
       nameNo0x = not-T (begins0x f) (λ t. T-not (begins0x (f ++ r)) (begins-left f r t) (subst (λ x. T (not (begins0x x))) e0 z));
       sep₁ = gap-full isSep w₁ f₁ r₁ (subst (λ x. T (nothingOr isSep x)) e₁ k) n₁ aw₁;
       invokes = record { number = i; spelled = numeral-sound decimal maxU32 f₁ i hi; says = refl };
@@ -310,7 +222,7 @@ category-sound cs core l a z (word {f = f} w r e aw n k (word {f = f₁} w₁ r�
     rw el fits
 category-sound cs core l a z (word w r e aw n k (word w₁ r₁ e₁ aw₁ n₁ k₁ (word w₂ r₂ e₂ aw₂ n₂ k₂ (word w₃ r₃ e₃ aw₃ n₃ k₃ (word w₄ r₄ e₄ aw₄ n₄ k₄ q))))) h = wrong-found h
 
-body-sound : (cs core : List ℕ) (l : Line) → Around cs core → bodyLine core ≡ found l → LineFits cs l
+body-sound : (cs core : List ℕ) (l : Line) → Body cs core → bodyLine core ≡ found l → LineFits cs l
 unfolding bodyLine
 body-sound cs [] l a h = let e : l ≡ blank = cc in rw e (blank-sound cs a)
 body-sound cs (c ∷ core) l a h = step (begins0x (c ∷ core)) refl h
@@ -322,4 +234,4 @@ body-sound cs (c ∷ core) l a h = step (begins0x (c ∷ core)) refl h
 -- what is read as a line is said by its characters
 pub line-sound : (cs : List ℕ) (l : Line) → lineOf cs ≡ found l → LineFits cs l
 unfolding lineOf
-line-sound cs l h = body-sound cs (body cs) l (body-around cs) h
+line-sound cs l h = let (core, b) = has-body cs in body-sound cs core l b (ap bodyLine (sym (body-is cs core b)) ∙ h)

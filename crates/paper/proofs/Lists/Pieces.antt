@@ -1,44 +1,15 @@
--- What the cuts of lists leave: behind `until` and around what is trimmed, the pieces of `cut`, and the words with the runs around them.
+-- The pieces that `cut` makes of characters, the words with the runs around them, and where a run is empty or is not.
 -- Assumes nothing.
 use Prim.Native.Nat.{ℕ}
 use mathlib.Core.Path.{_≡_, refl, sym, ap}
-use mathlib.Core.Bool.{Bool, true, false, not, cond, _&&_}
+use mathlib.Core.Bool.{Bool, true, false, not, cond}
 use mathlib.Core.List.{List, [], _∷_, _++_, append-nil}
 use lib.Dec.{T}
-use mir.Facts.{yes-and}
-use Rattle.paper.specs.Lists.{empty, all, full, nothingOr, select, push, cut, words, until, trimStart, trimEnd}
+use mir.Facts.{yes-and, and-yes, T-not}
+use Rattle.paper.specs.Lists.{empty, all, full, nothingOr, select, push, cut, words}
 use Rattle.paper.proofs.Lists.Facts.{true→T, false→T, un}
 
--- ---- what is left
-
-module _ {A : Type 0} (p : A → Bool) where
-  pub until-rest : (cs : List A) → (rest : List A) × (cs ≡ until p cs ++ rest) × T (nothingOr p rest) × T (all (un p) (until p cs))
-  until-rest [] = ([], refl, tt, tt)
-  until-rest (x ∷ cs) = step (p x) refl (until-rest cs)
-    where
-      step : (b : Bool) → p x ≡ b → (rest : List A) × (cs ≡ until p cs ++ rest) × T (nothingOr p rest) × T (all (un p) (until p cs))
-          → (rest : List A) × (x ∷ cs ≡ cond b [] (x ∷ until p cs) ++ rest) × T (nothingOr p rest) × T (all (un p) (cond b [] (x ∷ until p cs)))
-      step true e (r, h, t, a) = (x ∷ cs, refl, true→T (p x) e, tt)
-      step false e (r, h, t, a) = (r, ap (λ l. x ∷ l) h, t, yes-and (un p x) (all (un p) (until p cs)) (false→T (p x) e) a)
-
-  pub trimStart-rest : (cs : List A) → (w : List A) × (cs ≡ w ++ trimStart p cs) × T (all p w) × T (nothingOr (un p) (trimStart p cs))
-  trimStart-rest [] = ([], refl, tt, tt)
-  trimStart-rest (x ∷ cs) = step (p x) refl (trimStart-rest cs)
-    where
-      step : (b : Bool) → p x ≡ b → (w : List A) × (cs ≡ w ++ trimStart p cs) × T (all p w) × T (nothingOr (un p) (trimStart p cs))
-          → (w : List A) × (x ∷ cs ≡ w ++ cond b (trimStart p cs) (x ∷ cs)) × T (all p w) × T (nothingOr (un p) (cond b (trimStart p cs) (x ∷ cs)))
-      step true e (w, h, a, t) = (x ∷ w, ap (λ l. x ∷ l) h, yes-and (p x) (all p w) (true→T (p x) e) a, t)
-      step false e (w, h, a, t) = ([], refl, tt, false→T (p x) e)
-
-  pub trimEnd-rest : (cs : List A) → (w : List A) × (cs ≡ trimEnd p cs ++ w) × T (all p w)
-  trimEnd-rest [] = ([], refl, tt)
-  trimEnd-rest (x ∷ cs) = step (p x) refl (trimEnd p cs) (trimEnd-rest cs)
-    where
-      step : (b : Bool) → p x ≡ b → (r : List A) → (w : List A) × (cs ≡ r ++ w) × T (all p w)
-          → (w : List A) × (x ∷ cs ≡ cond (b && empty r) [] (x ∷ r) ++ w) × T (all p w)
-      step true e [] (w, h, a) = (x ∷ w, ap (λ l. x ∷ l) h, yes-and (p x) (all p w) (true→T (p x) e) a)
-      step true e (y ∷ r) (w, h, a) = (w, ap (λ l. x ∷ l) h, a)
-      step false e r (w, h, a) = (w, ap (λ l. x ∷ l) h, a)
+-- ---- pieces and words
 
 -- the pieces between the characters that pass
 pub data Pieces (p : ℕ → Bool) : List ℕ → List (List ℕ) → Type 0 where
@@ -75,3 +46,34 @@ module _ (p : ℕ → Bool) where
 
   pub words-spread : (cs : List ℕ) → Spread p cs (words p cs)
   words-spread cs = pieces-spread (cut-pieces cs)
+
+-- ---- runs and words
+
+pub clash {ℓ} : {X : Type ℓ} (b : Bool) → T b → T (not b) → X
+clash b t u = absurd (T-not b t u)
+
+-- a run between a place that begins with a separator and a word is not empty
+pub gap-full : (p : ℕ → Bool) (w f r : List ℕ) → T (nothingOr p (w ++ (f ++ r))) → T (full (un p) f) → T (all p w) → T (full p w)
+gap-full p [] [] r g h a = absurd h
+gap-full p [] (c ∷ f) r g h a = clash (p c) g (and-yes (un p c) (all (un p) f) h .0)
+gap-full p (c ∷ w) f r g h a = a
+
+-- a run where a text opens with no such character is empty
+pub gap-none : (p q : ℕ → Bool) → ((c : ℕ) → T (p c) → T (q c)) → (w s : List ℕ) → T (nothingOr (un q) (w ++ s)) → T (all p w) → w ≡ []
+gap-none p q f [] s g a = refl
+gap-none p q f (c ∷ w) s g a = clash (q c) (f c (and-yes (p c) (all p w) a .0)) g
+
+pub both-full : (p q r : ℕ → Bool) → ((c : ℕ) → T (p c) → T (q c) → T (r c)) → (s : List ℕ) → T (full p s) → T (all q s) → T (full r s)
+both-full p q r f [] a b = absurd a
+both-full p q r f (c ∷ s) a b = go (c ∷ s) a b
+  where
+    go : (s : List ℕ) → T (all p s) → T (all q s) → T (all r s)
+    go [] a b = tt
+    go (c ∷ s) a b =
+        let h = and-yes (p c) (all p s) a in
+        let g = and-yes (q c) (all q s) b in
+        yes-and (r c) (all r s) (f c (h .0) (g .0)) (go s (h .1) (g .1))
+
+pub full-opens : (p : ℕ → Bool) (w r : List ℕ) → T (full p w) → T (nothingOr p (w ++ r))
+full-opens p [] r a = absurd a
+full-opens p (c ∷ w) r a = and-yes (p c) (all p w) a .0
