@@ -10,7 +10,7 @@ use mathlib.Core.List.{List, [], _∷_, _++_, map, append-assoc}
 use lib.Dec.{T, eqb, eqb→eq}
 use lib.ListN.{length, length-append}
 use mir.Facts.{and-yes, yes-and, not-T}
-use Rattle.paper.specs.Lists.{empty, all, full, nothingOr, push, cut, words, until, trimStart, trimEnd, any, joined, sum}
+use Rattle.paper.specs.Lists.{empty, all, full, nothingOr, push, cut, words, until, trimStart, trimEnd, any, joined, sum, offsetsFrom}
 
 pub T→true : (b : Bool) → T b → b ≡ true
 T→true true t = refl
@@ -166,6 +166,10 @@ sum-append (x ∷ s) t = ap (λ n. x + n) (sum-append s t) ∙ sym (add-assoc x 
 pub joined-length : {A : Type 0} (ls : List (List A)) → length (joined ls) ≡ sum (map length ls)
 joined-length [] = refl
 joined-length (l ∷ ls) = length-append l (joined ls) ∙ ap (λ n. length l + n) (joined-length ls)
+
+pub offsets-length : {A : Type 0} (at : ℕ) (ls : List (List A)) → length (offsetsFrom at ls) ≡ length ls
+offsets-length at [] = refl
+offsets-length at (l ∷ ls) = ap suc (offsets-length (at + length l) ls)
 
 -- ---- words
 

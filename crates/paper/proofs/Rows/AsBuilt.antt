@@ -20,12 +20,12 @@ use Rattle.paper.specs.CharDef.Reading.{Reading}
 use Rattle.paper.specs.Rows.Covering.{boundaries, categoriesAt, rows}
 use Rattle.paper.specs.Rows.Flat.{RowFound, entryOffset, entryLength, offsetOf, flatEntry, entryPart, shortRows, flatPool}
 use Rattle.paper.specs.Rows.Lookup.{Looked, gives, LookupTables, Part, content, usesFlat, flatPart, rowPart, indexOdd, fromZero, rowMissing, pastPool, apart, Looks, packedAt, StartsWith, RowsLeft, FlatLeft, AsBuilt, without-flat, with-flat, GivesPart}
-use Rattle.paper.proofs.Lists.Facts.{T→true, true→T, joined-length}
+use Rattle.paper.proofs.Lists.Facts.{T→true, true→T, joined-length, offsets-length}
 use Rattle.paper.proofs.Lists.Parts.{take-part}
 use Rattle.paper.proofs.Rows.Boundaries.{row-for-each}
 use Rattle.paper.proofs.Rows.Search.{from-zero, found-row}
 use Rattle.paper.proofs.Rows.Flat.{part-of, part-inside, flat-part, flat-inside, index-length, index-at}
-use Rattle.paper.proofs.Rows.Build.{overlong-is, offsets-length}
+use Rattle.paper.proofs.Rows.Build.{overlong-is}
 use Rattle.paper.proofs.Rows.Lookup.{answered}
 
 -- ---- tables with more behind them

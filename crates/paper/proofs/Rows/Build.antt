@@ -1,8 +1,8 @@
 -- The exact needs are the lengths of what is filled (`exact`), rooms of the stated sizes are never below them, and 16 is given exactly when
 -- the rows are not all short.
 -- Assumes nothing.
-use Prim.Native.Nat.{ℕ, suc, _+_}
-use mathlib.Core.Path.{_≡_, refl, sym, ap, ap₂, _∙_}
+use Prim.Native.Nat.{ℕ}
+use mathlib.Core.Path.{_≡_, refl, sym, ap₂, _∙_}
 use mathlib.Core.Bool.{Bool, true, false, not, _&&_, _||_}
 use mathlib.Core.List.{List, [], _∷_}
 use mathlib.Core.Option.{some}
@@ -10,13 +10,13 @@ use lib.Dec.{leb, ltb}
 use lib.ListN.{length, length-map}
 use borrow.Author.Tests.{leb-true, leb-false, lt-ltb, le-ltb}
 use Rattle.paper.specs.Sizes.{maxRows, maxRowPlaces, maxPackBytes, maxFlatRow, bmpSize}
-use Rattle.paper.specs.Lists.{all, any, offsetsFrom}
+use Rattle.paper.specs.Lists.{all, any}
 use Rattle.paper.specs.CharDef.Reading.{Reading}
 use Rattle.paper.specs.Rows.Covering.{rows}
 use Rattle.paper.specs.Rows.Flat.{shortRows, flatPool}
 use Rattle.paper.specs.Rows.Build.{rowsNeeded, placesNeeded, rowOverlong, built, rowsBuilt, flatBuilt, packWritten, ExactNeeds}
 use Rattle.paper.specs.Pack.Rules.{PackRules}
-use Rattle.paper.proofs.Lists.Facts.{joined-length}
+use Rattle.paper.proofs.Lists.Facts.{joined-length, offsets-length}
 use Rattle.paper.proofs.Rows.Boundaries.{row-for-each}
 use Rattle.paper.proofs.Rows.Sizes.{boundaries-fit, places-fit}
 use Rattle.paper.proofs.Rows.Flat.{index-length}
@@ -41,10 +41,6 @@ overlong-is r = go (rows r)
     go : (ws : List (List ℕ)) → any (λ w. ltb maxFlatRow (length w)) ws ≡ not (all (λ w. leb (length w) maxFlatRow) ws)
     go [] = refl
     go (w ∷ ws) = ap₂ (λ x y. x || y) (above maxFlatRow (length w)) (go ws) ∙ demorgan (leb (length w) maxFlatRow) _
-
-pub offsets-length : (at : ℕ) (ws : List (List ℕ)) → length (offsetsFrom at ws) ≡ length ws
-offsets-length at [] = refl
-offsets-length at (w ∷ ws) = ap suc (offsets-length (at + length w) ws)
 
 -- the exact needs are the lengths of what is filled
 pub exact : (r : Reading) → ExactNeeds r

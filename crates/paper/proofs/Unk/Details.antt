@@ -148,7 +148,3 @@ entry-unknown names bytes u f k = unknown-from (λ e. (e .left, e .right, e .cos
 
 pub details-unknown : (names : List (List ℕ)) (bytes : List ℕ) (u : Unk) (f : UnkFits names bytes u) (k : ℕ) → (detailsOf u k ≡ none) ↔ (length (f .entries) ≤ k)
 details-unknown names bytes u f k = unknown-from (λ e. e .details) (f .entries) k (detailsOf u k) (details-are names bytes u f k)
-
-pub offsets-length : (ls : List (List ℕ)) (at : ℕ) → length (offsetsFrom at ls) ≡ length ls
-offsets-length [] at = refl
-offsets-length (l ∷ ls) at = ap suc (offsets-length ls (at + length l))
