@@ -15,7 +15,8 @@ use mir.Facts.{yes-and}
 use borrow.Author.Tests.{le-leb, lt-leb, leb-true, leb-false}
 use Rattle.paper.specs.Text.Scalar.{isScalar, IsScalar, utf8Of, utf8, WellFormed}
 use Rattle.paper.specs.Computed.Decode.{First, bad, good, first, broken, chars, onward, decodeFrom}
-use Rattle.paper.proofs.Text.Code.{enc-1, enc-2, enc-3, enc-4, bad-good, decode-complete, first-taken}
+use Rattle.paper.proofs.Apart.{bad-good}
+use Rattle.paper.proofs.Text.Code.{enc-1, enc-2, enc-3, enc-4, decode-complete, first-taken}
 use Rattle.paper.proofs.Text.Prefix.{first-shapes, prefix-longest, chars-formed}
 use Rattle.text.specs.declared.Scalar.{Scalar}
 use denote.Enum.Declared.{tagOf}
