@@ -21,7 +21,8 @@ use Rattle.paper.proofs.Text.Lengths.{enc-1, enc-2, enc-3, enc-4}
 use Rattle.paper.proofs.Lists.Facts.{T→true, T→false, true→T, un, pushAll}
 use Rattle.paper.proofs.Text.Bytes.{pushAll-utf8}
 use Rattle.line.proofs.Spread.{spread, Agrees, until-spread, trimStart-spread, trimEnd-spread, words-spread}
-use Rattle.line.specs.Marks.{Mark, byte, inGap, hashMark, marksFrom, marks, whiteWidth, sepWidth, gapWidth, wordsBytes, bodyBytes, bodyLineBytes, lineBytes, inBytes}
+use Rattle.text.specs.Answers.{whiteWidth}
+use Rattle.line.specs.Marks.{Mark, byte, inGap, hashMark, marksFrom, marks, sepWidth, gapWidth, wordsBytes, bodyBytes, bodyLineBytes, lineBytes, inBytes}
 use Rattle.line.proofs.Widths.{white-lead, white-tail, sep-lead, sep-tail}
 
 -- ---- the bytes of a character

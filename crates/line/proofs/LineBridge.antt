@@ -19,7 +19,8 @@ use Rattle.paper.specs.Computed.ReadText.{Found, found, wrong, BoundFound, boun
 use Rattle.paper.proofs.Lists.Facts.{T→true, T→false, true→T, un, pushAll, full-all}
 use Rattle.paper.proofs.Text.Bytes.{pushAll-utf8}
 use Rattle.line.proofs.Spread.{spread, Agrees, until-spread, trimStart-spread, trimEnd-spread}
-use Rattle.line.specs.Marks.{Mark, byte, inGap, hashMark, marks, whiteWidth, gapWidth, wordsBytes, bodyBytes, bodyLineBytes, lineBytes, inBytes}
+use Rattle.text.specs.Answers.{whiteWidth}
+use Rattle.line.specs.Marks.{Mark, byte, inGap, hashMark, marks, gapWidth, wordsBytes, bodyBytes, bodyLineBytes, lineBytes, inBytes}
 use Rattle.line.proofs.Widths.{white-lead, white-tail, sep-lead, sep-tail}
 use Rattle.line.proofs.Bridge.{Front, low, high, front, tag, tagged, alike-gap, byte-spread, marks-utf8, words-utf8}
 

@@ -14,12 +14,12 @@ use Rattle.paper.specs.Computed.Numeral.{numeral}
 use Rattle.paper.specs.Computed.ReadText.{Found, found, wrong, BoundFound, boundIs, noBound, parts, boundOf, fromBounds, fromParts, rangeOf, fromNumbers, categoryOf}
 use Rattle.line.specs.Answer.{gapRun, wordRun, solid}
 use Rattle.paper.proofs.Lists.Parts.{nothing, uncons}
-use Rattle.number.specs.declared.Bound.{Bound}
-use Rattle.number.specs.declared.Bound.the-variants.{Code, NoBound}
-use Rattle.number.specs.declared.Number.{Number}
-use Rattle.number.specs.declared.Number.the-variants.{Value, Bad}
+use Rattle.numeral.specs.declared.Bound.{Bound}
+use Rattle.numeral.specs.declared.Bound.the-variants.{Code, NoBound}
+use Rattle.numeral.specs.declared.Number.{Number}
+use Rattle.numeral.specs.declared.Number.the-variants.{Value, Bad}
 use Rattle.line.specs.declared.Four.{Four}
-use Rattle.number.specs.Said.{saidBound, saidNumber}
+use Rattle.numeral.specs.Said.{saidBound, saidNumber}
 use Rattle.line.specs.declared.Part.{Part}
 use Rattle.line.specs.Answer.{word-and, bytesOf, NextWord, Cut, Body, rangeAnswer, categoryAnswer, said, wordPart, bodyPart, Placed, Says, FourWords}
 use Rattle.line.specs.declared.LineAnswer.{LineAnswer}

@@ -12,7 +12,6 @@ use lib.ListN.{take, drop}
 use Rattle.paper.specs.Text.Scalar.{utf8}
 use Rattle.paper.specs.CharDef.Line.{Line, blank, category, range}
 use Rattle.paper.specs.Computed.ReadText.{Found, found, wrong, lineOf}
-use Rattle.paper.specs.Pack.Fields.{inBytes}
 use Rattle.line.specs.declared.Part.{Part}
 use Rattle.line.specs.declared.LineAnswer.{LineAnswer}
 use Rattle.line.specs.declared.LineAnswer.the-variants.{Read, Refused}

@@ -1,6 +1,7 @@
 -- From the lengths of runs to words and bodies: what is left behind a run, and the bytes of a run.
 -- Assumes nothing.
-use Rattle.line.specs.Marks.{Mark, byte, inGap, hashMark, marksFrom, marks, whiteWidth, gapWidth, wordsBytes, bodyBytes}
+use Rattle.text.specs.Answers.{whiteWidth}
+use Rattle.line.specs.Marks.{Mark, byte, inGap, hashMark, marksFrom, marks, gapWidth, wordsBytes, bodyBytes}
 use Rattle.line.proofs.Bridge.{marks-solid, marks-nil}
 use Prim.Native.Nat.{ℕ, zero, suc, _+_, _-_, _≤_, _<_}
 use native.Mathlib.Omega.{arith}
@@ -13,7 +14,6 @@ use lib.Seq.{drop-drop, take-take, length-take-le, take-nil}
 use borrow.Author.Tests.{lt-ltb}
 use Rattle.paper.specs.Lists.{all, full, nothingOr, empty, until, trimStart, trimEnd, words}
 use Rattle.paper.proofs.Lists.Facts.{un, T→true, T→false, words-word, words-run}
-use Rattle.paper.specs.Pack.Fields.{byte}
 use Rattle.paper.proofs.Lists.Parts.{nothing, uncons, part-length, take-part, clamp}
 use Rattle.line.specs.declared.Part.{Part}
 use Rattle.line.specs.Answer.{gapRun, wordRun, solid, word-and, bytesOf, NextWord, Body, Least}

@@ -1,7 +1,9 @@
 -- The scans of a line: what a byte or a gap in front does to the runs, at places of a text.
 -- Assumes nothing.
 use Rattle.line.proofs.Spread.{until-run, until-stop, trimEnd-gone, trimEnd-stay}
-use Rattle.line.specs.Marks.{Mark, byte, inGap, hashMark, marks, isWhitePair, isWhiteTriple, whiteBy, whiteWidth, sepWidth, gapWidth}
+use Rattle.text.specs.Answers.{whiteWidth}
+use Rattle.line.specs.Marks.{Mark, inGap, hashMark, marks, gapWidth, gapByte}
+use Rattle.line.proofs.Widths.{white-le, gap-le, gap-ascii, gap-high}
 use Rattle.line.proofs.Bridge.{tag, marks-gap, marks-solid, marks-nil}
 use Prim.Native.Nat.{ℕ, zero, suc, _+_, _-_, _≤_, _<_}
 use native.Mathlib.Omega.{arith}
@@ -16,65 +18,8 @@ use borrow.Author.Tests.{lt-leb, le-leb, eq-eqb, ne-eqb}
 use Rattle.paper.specs.Lists.{all, full, empty, until, trimStart, trimEnd}
 use Rattle.paper.specs.Text.Scalar.{between, isWhite, isSep}
 use Rattle.paper.proofs.Lists.Facts.{un}
-use Rattle.paper.specs.Pack.Fields.{byte}
 use Rattle.paper.proofs.Lists.Parts.{nothing, uncons, part-length}
 use Rattle.line.specs.Answer.{gapRun, wordRun, solid}
-
-abbrev pub Is : ℕ → ℕ → Type 0
-Is a b = a ≡ b
-
--- ---- a gap's character stands whole
-
-and-off : (x : Bool) → (x && false) ≡ false
-and-off true = refl
-and-off false = refl
-
-pair-short : (a : ℕ) → isWhitePair a 255 ≡ false
-unfolding isWhitePair
-pair-short a = rw (and-off (eqb a 0xC2))
-
-triple-short : (a b : ℕ) → isWhiteTriple a b 255 ≡ false
-unfolding isWhiteTriple
-triple-short a b =
-    rw (and-off (eqb b 0x9A), and-off (eqb b 0x80), and-off (eqb b 0x81), and-off (eqb a 0xE1), and-off (eqb a 0xE2), and-off (eqb a 0xE3))
-
-cond-le : (x : Bool) (a b n : ℕ) → a ≤ n → b ≤ n → cond x a b ≤ n
-cond-le true a b n h k = h
-cond-le false a b n h k = k
-
-by-le : (a b c n : ℕ) → 1 ≤ n → (isWhitePair a b ≡ false) ⊎ (2 ≤ n) → (isWhiteTriple a b c ≡ false) ⊎ (3 ≤ n) → whiteBy a b c ≤ n
-unfolding whiteBy
-by-le a b c n h p t =
-    cond-le (leb a 0x7F) _ _ n (cond-le (isWhite a) 1 0 n h (omega arith)) (pairs p)
-  where
-    triples : (isWhiteTriple a b c ≡ false) ⊎ (3 ≤ n) → cond (isWhiteTriple a b c) 3 0 ≤ n
-    triples (inl e) = rw e (omega arith)
-    triples (inr k) = cond-le (isWhiteTriple a b c) 3 0 n k (omega arith)
-
-    pairs : (isWhitePair a b ≡ false) ⊎ (2 ≤ n) → cond (isWhitePair a b) 2 (cond (isWhiteTriple a b c) 3 0) ≤ n
-    pairs (inl e) = rw e (triples t)
-    pairs (inr k) = cond-le (isWhitePair a b) 2 (cond (isWhiteTriple a b c) 3 0) n k (triples t)
-
-none : whiteBy 255 255 255 ≤ 0
-unfolding whiteBy
-none = omega arith
-
-white-le : (s : List ℕ) → whiteWidth s ≤ length s
-unfolding whiteWidth
-white-le [] = none
-white-le (a ∷ []) = by-le a 255 255 1 (omega arith) (inl (pair-short a)) (inl (triple-short a 255))
-white-le (a ∷ b ∷ []) = by-le a b 255 2 (omega arith) (inr (omega arith)) (inl (triple-short a b))
-white-le (a ∷ b ∷ c ∷ s) = by-le a b c (suc (suc (suc (length s)))) (omega arith) (inr (omega arith)) (inr (omega arith))
-
-sep-le : (s : List ℕ) → sepWidth s ≤ length s
-unfolding sepWidth isSep
-sep-le [] = omega arith
-sep-le (b ∷ s) = cond-le (isSep b) 1 0 (suc (length s)) (omega arith) (omega arith)
-
-pub gap-le : (white : Bool) (s : List ℕ) → gapWidth white s ≤ length s
-unfolding gapWidth
-gap-le true s = white-le s
-gap-le false s = sep-le s
 
 -- ---- what stands in front of the marks
 
@@ -246,15 +191,19 @@ module _ (l : List ℕ) (at end last : ℕ) where
   unfolding endOf
   solid-end h = ap (λ s. endOf last at (solid s)) (nothing l at end h) ∙ ap (endOf last at) solid-nil
 
-  module _ (w : ℕ) (e : w ≡ whiteWidth (drop at (take end l))) (k : end ≤ length l) where
+  module _ (w : ℕ) (g : w ≡ gapWidth true (drop at (take end l))) (k : end ≤ length l) where
+    e : w ≡ whiteWidth (drop at (take end l))
+    unfolding gapWidth
+    e = g
+
     pub white-within : w ≤ end - at
-    white-within = let h = white-le (drop at (take end l)) in omega (arith, part-length l at end k)
+    white-within = let f = e in let h = white-le (drop at (take end l)) in omega (arith, part-length l at end k)
 
     pub solid-skip : 0 < w → endOf last at (solid (drop at (take end l))) ≡ endOf last (at + w) (solid (drop (at + w) (take end l)))
     unfolding solid
     solid-skip h =
         let s = drop at (take end l) in
-        let z : 0 < whiteWidth s = omega arith in
+        let z : 0 < whiteWidth s = omega (arith, e) in
         let m : length (tag true (take (whiteWidth s) s)) ≡ w = tag-length true (take (whiteWidth s) s) ∙ length-take-le (whiteWidth s) s (white-le s) ∙ sym e in
         ap (endOf last at) (solid-gap s z)
         ∙ gap-end last at w (tag true (take (whiteWidth s) s)) (until hashMark (marks whiteWidth (drop (whiteWidth s) s))) m (tag-gap (take (whiteWidth s) s))
@@ -279,38 +228,21 @@ module _ (l : List ℕ) (at end last : ℕ) where
           ap (λ s. endOf last at (solid s)) (uncons l at end h k)
           ∙ ap (endOf last at) (solid-on (drop (at + 1) (take end l)) (getD l at 0) q zero-here) ∙ m ∙ end-start (at + 1) t
 
--- ---- the width of a gap
+-- ---- the width of a gap at a place
 
-module _ (white : Bool) (s : List ℕ) (r : ℕ) where
-  pub is-white : white ≡ true → r ≡ whiteWidth s → r ≡ gapWidth white s
+module _ (l : List ℕ) (at end : ℕ) (white : Bool) where
+  module _ (h : at < end) (k : end ≤ length l) where
+    pub width-ascii : getD l at 0 < 0x80 → {x y : Bool} → x ≡ gapByte white (getD l at 0) → x ≡ y → cond y 1 0 ≡ gapWidth white (drop at (take end l))
+    width-ascii m {x} {y} e f =
+        let q : getD l at 0 ≤ 0x7F = omega arith in
+        ap (λ b. cond b 1 0) (sym f ∙ e) ∙ sym (gap-ascii white (getD l at 0) (drop (at + 1) (take end l)) q)
+        ∙ ap (gapWidth white) (sym (uncons l at end h k))
+
+    pub width-none : 0x80 ≤ getD l at 0 → white ≡ false → 0 ≡ gapWidth white (drop at (take end l))
+    width-none m e =
+        sym
+        (ap₂ gapWidth e (uncons l at end h k) ∙ gap-high (getD l at 0) (drop (at + 1) (take end l)) m)
+
+  pub width-white : white ≡ true → {w : ℕ} → w ≡ whiteWidth (drop at (take end l)) → w ≡ gapWidth white (drop at (take end l))
   unfolding gapWidth
-  is-white e f = f ∙ ap (λ b. gapWidth b s) (sym e)
-
-  pub is-sep : white ≡ false → r ≡ sepWidth s → r ≡ gapWidth white s
-  unfolding gapWidth
-  is-sep e f = f ∙ ap (λ b. gapWidth b s) (sym e)
-
-module _ (s : List ℕ) (b : ℕ) (e : b ≡ getD s 0 255) where
-  pub sep-yes : (k : ℕ) → isSep k ≡ true → b ≡ k → Is 1 (sepWidth s)
-  unfolding sepWidth
-  sep-yes k t f = ap (λ x. cond x 1 0) (sym (ap isSep (sym e ∙ f) ∙ t))
-
-  pub sep-no : (b ≡ 9 → ⊥) → (b ≡ 12 → ⊥) → (b ≡ 13 → ⊥) → (b ≡ 32 → ⊥) → Is 0 (sepWidth s)
-  unfolding sepWidth isSep
-  sep-no f g h k = rw (← e, ne-eqb b 9 f, ne-eqb b 12 g, ne-eqb b 13 h, ne-eqb b 32 k)
-
-pub sep-9 : isSep 9 ≡ true
-unfolding isSep
-sep-9 = refl
-
-pub sep-12 : isSep 12 ≡ true
-unfolding isSep
-sep-12 = refl
-
-pub sep-13 : isSep 13 ≡ true
-unfolding isSep
-sep-13 = refl
-
-pub sep-32 : isSep 32 ≡ true
-unfolding isSep
-sep-32 = refl
+  width-white e f = f ∙ ap (λ b. gapWidth b (drop at (take end l))) (sym e)

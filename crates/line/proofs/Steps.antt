@@ -1,7 +1,8 @@
 -- Words and bodies at places of a text, whose ends may lie past it; and the pieces between `..`.
 -- Assumes nothing.
 use Rattle.line.proofs.LineBridge.{parts-off, parts-off₂}
-use Rattle.line.specs.Marks.{Mark, marks, whiteWidth, gapWidth, wordsBytes, bodyBytes}
+use Rattle.text.specs.Answers.{whiteWidth}
+use Rattle.line.specs.Marks.{Mark, marks, gapWidth, wordsBytes, bodyBytes}
 use Prim.Native.Nat.{ℕ, zero, suc, _+_, _-_, _≤_, _<_}
 use native.Mathlib.Omega.{arith}
 use mathlib.Core.Path.{_≡_, refl, sym, ap, ap₂, _∙_, subst}

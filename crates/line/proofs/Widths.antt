@@ -1,195 +1,133 @@
 -- A gap's width, taken from bytes, is that of the character which they spell; a byte inside a character begins no gap.
+-- What is no scalar value is no gap either, and the decoder takes none of its bytes.
 -- Assumes nothing.
-use Prim.Native.Nat.{ℕ, zero, suc, _+_, _*_, _/_, _%_, _<_, _≤_}
+use Prim.Native.Nat.{ℕ, suc, _+_, _*_, _/_, _%_, _<_, _≤_}
 use native.Mathlib.Omega.{arith}
-use mathlib.Core.Path.{_≡_, refl, sym, ap, ap₂, _∙_, subst}
-use mathlib.Core.Bool.{Bool, true, false, not, cond, _&&_, _||_}
+use native.Mathlib.Decide.{ℕ-discrete}
+use mathlib.Core.Path.{_≡_, refl, sym, ap, _∙_}
+use mathlib.Core.Logic.{_⊎_, inl, inr}
+use mathlib.Core.Bool.{Bool, true, false, cond, _&&_, _||_}
 use mathlib.Core.List.{List, [], _∷_, _++_}
-use lib.Dec.{T, leb, ltb, eqb}
-use lib.ListN.{length, getD}
-use mir.Facts.{and-yes, yes-and, leb-yes, yes-leb, eqb-yes, yes-eqb}
-use borrow.Author.Tests.{le-leb, lt-leb, leb-true, leb-false, ne-eqb}
-use Rattle.paper.specs.Lists.{any, all}
-use Rattle.paper.specs.Text.Scalar.{between, isWhite, isSep, utf8Of}
-use Rattle.paper.specs.Computed.Decode.{isTail}
+use lib.Dec.{leb}
+use lib.ListN.{length, drop, getD}
+use borrow.Author.Tests.{lt-leb, leb-true, leb-false, ne-eqb}
+use Rattle.paper.specs.Text.Scalar.{between, In, whites, isWhite, isSep, utf8Of}
+use Rattle.paper.specs.Computed.Decode.{First, bad, good, lowest, highest, isTail, three, four, first}
+use Rattle.paper.proofs.Text.Scalar.{scalar-low, scalar-high}
 use Rattle.paper.proofs.Text.Lengths.{enc-1, enc-2, enc-3, enc-4}
-use Rattle.paper.proofs.Lists.Facts.{T→true}
-use Rattle.line.specs.Marks.{pair, triple, isWhitePair, isWhiteTriple, whiteBy, whiteWidth, sepWidth, gapWidth}
+use Rattle.text.specs.Answers.{whiteBy, whiteWidth}
+use Rattle.text.proofs.Chars.{found}
+use Rattle.text.proofs.White.{Outside, no-white, width-by, width-ascii, width-char, width-tail}
+use Rattle.line.specs.Marks.{sepWidth, gapWidth, gapByte}
 
-pub bool-iff : (a b : Bool) → (T a → T b) → (T b → T a) → a ≡ b
-bool-iff true b f g = sym (T→true b (f tt))
-bool-iff false true f g = absurd (g tt)
-bool-iff false false f g = refl
+-- ---- what is no scalar value
 
-or : {a b c d : Bool} → a ≡ c → b ≡ d → (a || b) ≡ (c || d)
-or e f = ap₂ _||_ e f
-
-off : {a b : Bool} → a ≡ false → (a || b) ≡ b
-off {b = b} e = ap (λ x. x || b) e
-
-no-and : (a b : Bool) → a ≡ false → (a && b) ≡ false
-no-and a b e = ap (λ x. x && b) e
-
-pub below : (lo hi c : ℕ) → c < lo → between lo hi c ≡ false
-below lo hi c h = no-and (leb lo c) (leb c hi) (lt-leb lo c h)
-
-pub above : (lo hi c : ℕ) → hi < c → between lo hi c ≡ false
-above lo hi c h = go (leb lo c) (lt-leb c hi h)
+past : (lo hi b : ℕ) → hi < b → between lo hi b ≡ false
+past lo hi b h = go (leb lo b)
   where
-    go : (a : Bool) → leb c hi ≡ false → (a && leb c hi) ≡ false
-    go true e = e
-    go false e = refl
+    go : (x : Bool) → (x && leb b hi) ≡ false
+    go true = lt-leb b hi h
+    go false = refl
 
-yes-between : (lo hi c : ℕ) → lo ≤ c → c ≤ hi → T (between lo hi c)
-yes-between lo hi c h k = yes-and (leb lo c) (leb c hi) (yes-leb h) (yes-leb k)
+ill-ED : (b c : ℕ) (t : List ℕ) → 0x9F < b → first 0xED (b ∷ c ∷ t) ≡ bad
+unfolding first
+ill-ED b c t h = ap (λ x. cond (x && isTail c) (good ((0xED % 16 * 64 + b % 64) * 64 + c % 64) 2) bad) (past 0x80 0x9F b h)
 
-between-yes : (lo hi c : ℕ) → T (between lo hi c) → (lo ≤ c) × (c ≤ hi)
-between-yes lo hi c t = let h = and-yes (leb lo c) (leb c hi) t in (leb-yes (h .0), leb-yes (h .1))
+ill-F4 : (b c d : ℕ) (t : List ℕ) → 0x8F < b → first 0xF4 (b ∷ c ∷ d ∷ t) ≡ bad
+unfolding first
+ill-F4 b c d t h =
+    ap (λ x. cond (x && isTail c && isTail d) (good (((0xF4 % 8 * 64 + b % 64) * 64 + c % 64) * 64 + d % 64) 3) bad) (past 0x80 0x8F b h)
 
--- ---- a run of characters that differ in the last byte alone
+ill-F5 : (a : ℕ) (s : List ℕ) → 0xF4 < a → first a s ≡ bad
+unfolding first
+ill-F5 a s h =
+    let h₁ : 0x7F < a = omega arith in
+    let h₂ : 0xC1 < a = omega arith in
+    let h₃ : 0xDF < a = omega arith in
+    let h₄ : 0xEF < a = omega arith in
+    rw (lt-leb a 0x7F h₁, lt-leb a 0xC1 h₂, lt-leb a 0xDF h₃, lt-leb a 0xEF h₄, lt-leb a 0xF4 h)
 
-module _ (c A L H : ℕ) (l : L < 64) (h : H < 64) where
-  pair-law : pair (0xC0 + c / 64) (0x80 + c % 64) (0xC0 + A, (0x80 + L, 0x80 + H)) ≡ between (A * 64 + L) (A * 64 + H) c
-  pair-law =
-      bool-iff _ _
-      (λ t.
-      let u = and-yes (eqb (0xC0 + c / 64) (0xC0 + A)) _ t in
-      let e : 0xC0 + c / 64 ≡ 0xC0 + A = eqb-yes (u .0) in
-      let v = between-yes (0x80 + L) (0x80 + H) (0x80 + c % 64) (u .1) in
-      yes-between (A * 64 + L) (A * 64 + H) c (omega arith) (omega arith))
-      (λ t.
-      let v = between-yes (A * 64 + L) (A * 64 + H) c t in
-      let e : 0xC0 + c / 64 ≡ 0xC0 + A = omega arith in
-      yes-and (eqb (0xC0 + c / 64) (0xC0 + A)) _ (yes-eqb e)
-      (yes-between (0x80 + L) (0x80 + H) (0x80 + c % 64) (omega arith) (omega arith)))
+no-gap : (c : ℕ) (s : List ℕ) (n : ℕ) → 0xD800 ≤ c → whiteWidth s ≡ 0 → whiteWidth s ≡ cond (isWhite c) n 0
+no-gap c s n h e = e ∙ ap (λ x. cond x n 0) (sym (no-white c outside))
+  where
+    outside : Outside c whites
+    outside = (
+      (λ i. omega arith),
+      (
+        (λ i. omega arith),
+        (
+          (λ i. omega arith),
+          (
+            (λ i. omega arith),
+            (
+              (λ i. omega arith),
+              ((λ i. omega arith), ((λ i. omega arith), ((λ i. omega arith), ((λ i. omega arith), ((λ i. omega arith), ((λ i. omega arith), tt)))))),
+            ),
+          ),
+        ),
+      ),
+    )
 
-  module _ (B : ℕ) (b : B < 64) where
-    triple-law : triple (0xE0 + c / 4096) (0x80 + c / 64 % 64) (0x80 + c % 64) (0xE0 + A, (0x80 + B, (0x80 + L, 0x80 + H)))
-        ≡ between (A * 4096 + B * 64 + L) (A * 4096 + B * 64 + H) c
-    triple-law =
-        bool-iff _ _
-        (λ t.
-        let u = and-yes (eqb (0xE0 + c / 4096) (0xE0 + A)) _ t in
-        let e : 0xE0 + c / 4096 ≡ 0xE0 + A = eqb-yes (u .0) in
-        let w = and-yes (eqb (0x80 + c / 64 % 64) (0x80 + B)) _ (u .1) in
-        let f : 0x80 + c / 64 % 64 ≡ 0x80 + B = eqb-yes (w .0) in
-        let v = between-yes (0x80 + L) (0x80 + H) (0x80 + c % 64) (w .1) in
-        yes-between (A * 4096 + B * 64 + L) (A * 4096 + B * 64 + H) c (omega arith) (omega arith))
-        (λ t.
-        let v = between-yes (A * 4096 + B * 64 + L) (A * 4096 + B * 64 + H) c t in
-        let e : 0xE0 + c / 4096 ≡ 0xE0 + A = omega arith in
-        let f : 0x80 + c / 64 % 64 ≡ 0x80 + B = omega arith in
-        yes-and (eqb (0xE0 + c / 4096) (0xE0 + A)) _ (yes-eqb e)
-        (yes-and (eqb (0x80 + c / 64 % 64) (0x80 + B)) _ (yes-eqb f)
-        (yes-between (0x80 + L) (0x80 + H) (0x80 + c % 64) (omega arith) (omega arith))))
+ill-surrogate : (c : ℕ) (t : List ℕ) → 0xD800 ≤ c → c ≤ 0xDFFF → whiteWidth (utf8Of c ++ t) ≡ 0
+ill-surrogate c t l h =
+    let e : 0xE0 + c / 4096 ≡ 0xED = omega arith in
+    let k : 0x800 ≤ c = omega arith in
+    let m : c ≤ 0xFFFF = omega arith in
+    let n : 0x9F < 0x80 + c / 64 % 64 = omega arith in
+    rw (enc-3 c k m)
+    (width-by _ bad (ap (λ a. first a ((0x80 + c / 64 % 64) ∷ (0x80 + c % 64) ∷ t)) e ∙ ill-ED (0x80 + c / 64 % 64) (0x80 + c % 64) t n))
 
--- ---- a first byte that begins no White_Space
+ill-beyond : (c : ℕ) (t : List ℕ) → 0x10FFFF < c → whiteWidth (utf8Of c ++ t) ≡ 0
+ill-beyond c t l = let k : 0x10000 ≤ c = omega arith in rw (enc-4 c k) (width-by _ bad (go (leb (0xF0 + c / 262144) 0xF4) refl))
+  where
+    go : (x : Bool) → leb (0xF0 + c / 262144) 0xF4 ≡ x
+        → first (0xF0 + c / 262144) ((0x80 + c / 4096 % 64) ∷ (0x80 + c / 64 % 64) ∷ (0x80 + c % 64) ∷ t) ≡ bad
+    go true e =
+        let h = leb-true (0xF0 + c / 262144) 0xF4 e in
+        let d : 0xF0 + c / 262144 ≡ 0xF4 = omega arith in
+        let n : 0x8F < 0x80 + c / 4096 % 64 = omega arith in
+        ap (λ a. first a ((0x80 + c / 4096 % 64) ∷ (0x80 + c / 64 % 64) ∷ (0x80 + c % 64) ∷ t)) d
+        ∙ ill-F4 (0x80 + c / 4096 % 64) (0x80 + c / 64 % 64) (0x80 + c % 64) t n
+    go false e = ill-F5 (0xF0 + c / 262144) _ (leb-false (0xF0 + c / 262144) 0xF4 e)
 
-pair-off : (a b : ℕ) (t : ℕ × (ℕ × ℕ)) → (a ≡ t .0 → ⊥) → pair a b t ≡ false
-pair-off a b t h = no-and (eqb a (t .0)) _ (ne-eqb a (t .0) h)
-
-triple-off : (a b c : ℕ) (t : ℕ × (ℕ × (ℕ × ℕ))) → (a ≡ t .0 → ⊥) → triple a b c t ≡ false
-triple-off a b c t h = no-and (eqb a (t .0)) _ (ne-eqb a (t .0) h)
-
-pub no-pair : (a b : ℕ) → (a ≡ 0xC2 → ⊥) → isWhitePair a b ≡ false
-unfolding isWhitePair
-no-pair a b h = off (pair-off a b (0xC2, (0x85, 0x85)) h) ∙ off (pair-off a b (0xC2, (0xA0, 0xA0)) h)
-
-pub no-triple : (a b c : ℕ) → (a ≡ 0xE1 → ⊥) → (a ≡ 0xE2 → ⊥) → (a ≡ 0xE3 → ⊥) → isWhiteTriple a b c ≡ false
-unfolding isWhiteTriple
-no-triple a b c f g h =
-    off (triple-off a b c (0xE1, (0x9A, (0x80, 0x80))) f) ∙ off (triple-off a b c (0xE2, (0x80, (0x80, 0x8A))) g)
-    ∙ off (triple-off a b c (0xE2, (0x80, (0xA8, 0xA8))) g) ∙ off (triple-off a b c (0xE2, (0x80, (0xA9, 0xA9))) g)
-    ∙ off (triple-off a b c (0xE2, (0x80, (0xAF, 0xAF))) g) ∙ off (triple-off a b c (0xE2, (0x81, (0x9F, 0x9F))) g)
-    ∙ off (triple-off a b c (0xE3, (0x80, (0x80, 0x80))) h)
-
--- ---- White_Space by the length of the encoding
-
-white-2 : (c : ℕ) → 0x80 ≤ c → c ≤ 0x7FF → isWhite c ≡ isWhitePair (0xC0 + c / 64) (0x80 + c % 64)
-unfolding isWhite isWhitePair
-white-2 c l h =
-    off (above 0x9 0xD c (omega arith)) ∙ off (above 0x20 0x20 c (omega arith))
-    ∙ or (sym (pair-law c 2 5 5 (omega arith) (omega arith)))
-    (or (sym (pair-law c 2 0x20 0x20 (omega arith) (omega arith)))
-    (off (below 0x1680 0x1680 c (omega arith)) ∙ off (below 0x2000 0x200A c (omega arith)) ∙ off (below 0x2028 0x2028 c (omega arith))
-    ∙ off (below 0x2029 0x2029 c (omega arith)) ∙ off (below 0x202F 0x202F c (omega arith)) ∙ off (below 0x205F 0x205F c (omega arith))
-    ∙ off (below 0x3000 0x3000 c (omega arith))))
-
-white-3 : (c : ℕ) → 0x800 ≤ c → isWhite c ≡ isWhiteTriple (0xE0 + c / 4096) (0x80 + c / 64 % 64) (0x80 + c % 64)
-unfolding isWhite isWhiteTriple
-white-3 c l =
-    off (above 0x9 0xD c (omega arith)) ∙ off (above 0x20 0x20 c (omega arith)) ∙ off (above 0x85 0x85 c (omega arith)) ∙ off (above 0xA0 0xA0 c (omega arith))
-    ∙ or (sym (triple-law c 1 0 0 (omega arith) (omega arith) 0x1A (omega arith)))
-    (or (sym (triple-law c 2 0 0xA (omega arith) (omega arith) 0 (omega arith)))
-    (or (sym (triple-law c 2 0x28 0x28 (omega arith) (omega arith) 0 (omega arith)))
-    (or (sym (triple-law c 2 0x29 0x29 (omega arith) (omega arith) 0 (omega arith)))
-    (or (sym (triple-law c 2 0x2F 0x2F (omega arith) (omega arith) 0 (omega arith)))
-    (or (sym (triple-law c 2 0x1F 0x1F (omega arith) (omega arith) 1 (omega arith)))
-    (or (sym (triple-law c 3 0 0 (omega arith) (omega arith) 0 (omega arith))) refl))))))
-
-white-4 : (c : ℕ) → 0x10000 ≤ c → isWhite c ≡ false
-unfolding isWhite
-white-4 c l =
-    off (above 0x9 0xD c (omega arith)) ∙ off (above 0x20 0x20 c (omega arith)) ∙ off (above 0x85 0x85 c (omega arith)) ∙ off (above 0xA0 0xA0 c (omega arith))
-    ∙ off (above 0x1680 0x1680 c (omega arith)) ∙ off (above 0x2000 0x200A c (omega arith)) ∙ off (above 0x2028 0x2028 c (omega arith))
-    ∙ off (above 0x2029 0x2029 c (omega arith)) ∙ off (above 0x202F 0x202F c (omega arith)) ∙ off (above 0x205F 0x205F c (omega arith))
-    ∙ off (above 0x3000 0x3000 c (omega arith))
-
--- ---- the width at a character
-
-pub high-by : (a b c : ℕ) → 0x80 ≤ a → whiteBy a b c ≡ cond (isWhitePair a b) 2 (cond (isWhiteTriple a b c) 3 0)
-unfolding whiteBy
-high-by a b c h = ap (λ x. cond x (cond (isWhite a) 1 0) (cond (isWhitePair a b) 2 (cond (isWhiteTriple a b c) 3 0))) (lt-leb a 0x7F h)
-
-pub low-by : (a b c : ℕ) → leb a 0x7F ≡ true → whiteBy a b c ≡ cond (isWhite a) 1 0
-unfolding whiteBy
-low-by a b c e = ap (λ x. cond x (cond (isWhite a) 1 0) (cond (isWhitePair a b) 2 (cond (isWhiteTriple a b c) 3 0))) e
+-- ---- White_Space
 
 pub white-lead : (c : ℕ) (t : List ℕ) → whiteWidth (utf8Of c ++ t) ≡ cond (isWhite c) (length (utf8Of c)) 0
-unfolding whiteWidth
-white-lead c t = go (leb c 0x7F) (leb c 0x7FF) (leb c 0xFFFF) refl refl refl
+white-lead c t = go (leb c 0xD7FF) (leb c 0xDFFF) (leb c 0x10FFFF) refl refl refl
   where
-    two : (a b d : ℕ) → 0x80 ≤ a → (a ≡ 0xE1 → ⊥) → (a ≡ 0xE2 → ⊥) → (a ≡ 0xE3 → ⊥) → isWhite c ≡ isWhitePair a b → whiteBy a b d ≡ cond (isWhite c) 2 0
-    two a b d h f g k e =
-        high-by a b d h ∙ ap (λ x. cond (isWhitePair a b) 2 (cond x 3 0)) (no-triple a b d f g k) ∙ ap (λ x. cond x 2 0) (sym e)
-
-    three : (a b d : ℕ) → 0x80 ≤ a → (a ≡ 0xC2 → ⊥) → isWhite c ≡ isWhiteTriple a b d → whiteBy a b d ≡ cond (isWhite c) 3 0
-    three a b d h f e =
-        high-by a b d h ∙ ap (λ x. cond x 2 (cond (isWhiteTriple a b d) 3 0)) (no-pair a b f) ∙ ap (λ x. cond x 3 0) (sym e)
-
-    go : (x y z : Bool) → leb c 0x7F ≡ x → leb c 0x7FF ≡ y → leb c 0xFFFF ≡ z
-        → whiteBy (getD (utf8Of c ++ t) 0 255) (getD (utf8Of c ++ t) 1 255) (getD (utf8Of c ++ t) 2 255) ≡ cond (isWhite c) (length (utf8Of c)) 0
-    go true y z e f g = rw (enc-1 c (leb-true c 0x7F e)) (low-by c (getD t 0 255) (getD t 1 255) e)
+    go : (x y z : Bool) → leb c 0xD7FF ≡ x → leb c 0xDFFF ≡ y → leb c 0x10FFFF ≡ z
+        → whiteWidth (utf8Of c ++ t) ≡ cond (isWhite c) (length (utf8Of c)) 0
+    go true y z e f g = width-char c t (scalar-low c (leb-true c 0xD7FF e))
     go false true z e f g =
-        let l : 0x80 ≤ c = leb-false c 0x7F e in
-        let h : c ≤ 0x7FF = leb-true c 0x7FF f in
-        rw (enc-2 c l h)
-        (two (0xC0 + c / 64) (0x80 + c % 64) (getD t 0 255) (omega arith) (λ k. omega arith) (λ k. omega arith) (λ k. omega arith) (white-2 c l h))
-    go false false true e f g =
-        let l : 0x800 ≤ c = leb-false c 0x7FF f in
-        let h : c ≤ 0xFFFF = leb-true c 0xFFFF g in
-        rw (enc-3 c l h)
-        (three (0xE0 + c / 4096) (0x80 + c / 64 % 64) (0x80 + c % 64) (omega arith) (λ k. omega arith) (white-3 c l))
+        let l : 0xD800 ≤ c = leb-false c 0xD7FF e in
+        no-gap c (utf8Of c ++ t) (length (utf8Of c)) l (ill-surrogate c t l (leb-true c 0xDFFF f))
+    go false false true e f g = width-char c t (scalar-high c (leb-false c 0xDFFF f) (leb-true c 0x10FFFF g))
     go false false false e f g =
-        let l : 0x10000 ≤ c = leb-false c 0xFFFF g in
-        rw (enc-4 c l, white-4 c l)
-        (three (0xF0 + c / 262144) (0x80 + c / 4096 % 64) (0x80 + c / 64 % 64) (omega arith) (λ k. omega arith)
-        (white-4 c l ∙ sym (no-triple (0xF0 + c / 262144) (0x80 + c / 4096 % 64) (0x80 + c / 64 % 64) (λ k. omega arith) (λ k. omega arith) (λ k. omega arith)))
-        ∙ ap (λ x. cond x 3 0) (white-4 c l))
+        no-gap c (utf8Of c ++ t) (length (utf8Of c)) (leb-false c 0xD7FF e) (ill-beyond c t (leb-false c 0x10FFFF g))
 
 pub white-tail : (b : ℕ) (t : List ℕ) → 0x80 ≤ b → b ≤ 0xBF → whiteWidth (b ∷ t) ≡ 0
+white-tail b t l h = width-tail b t (record { from = l; to = h })
+
+-- a gap's character stands whole
+cond-le : (x : Bool) (a n : ℕ) → a ≤ n → cond x a 0 ≤ n
+cond-le true a n h = h
+cond-le false a n h = omega arith
+
+pub white-le : (s : List ℕ) → whiteWidth s ≤ length s
 unfolding whiteWidth
-white-tail b t l h =
-    high-by b (getD (b ∷ t) 1 255) (getD (b ∷ t) 2 255) l
-    ∙ ap (λ x. cond x 2 (cond (isWhiteTriple b (getD (b ∷ t) 1 255) (getD (b ∷ t) 2 255)) 3 0)) (no-pair b (getD (b ∷ t) 1 255) (λ k. omega arith))
-    ∙ ap (λ x. cond x 3 0) (no-triple b (getD (b ∷ t) 1 255) (getD (b ∷ t) 2 255) (λ k. omega arith) (λ k. omega arith) (λ k. omega arith))
+white-le [] = omega arith
+white-le (a ∷ s) = go (first a s) refl
+  where
+    go : (f : First) → first a s ≡ f → whiteBy f ≤ suc (length s)
+    go bad e = omega arith
+    go (good c extra) e = cond-le (isWhite c) (suc extra) (suc (length s)) (found (a ∷ s) c extra e .inside)
 
 -- ---- separators
 
 sep-high : (b : ℕ) → 0x80 ≤ b → isSep b ≡ false
 unfolding isSep
 sep-high b h =
-    off (off (off (ne-eqb b 0x09 (λ k. omega arith)) ∙ ne-eqb b 0x0C (λ k. omega arith)) ∙ ne-eqb b 0x0D (λ k. omega arith)) ∙ ne-eqb b 0x20 (λ k. omega arith)
+    rw (ne-eqb b 0x09 (λ k. omega arith), ne-eqb b 0x0C (λ k. omega arith), ne-eqb b 0x0D (λ k. omega arith), ne-eqb b 0x20 (λ k. omega arith))
 
 -- a character from U+0080 has a first byte from 80
 high-lead : (c : ℕ) (t : List ℕ) → 0x80 ≤ c → 0x80 ≤ getD (utf8Of c ++ t) 0 255
@@ -214,3 +152,90 @@ sep-lead c t = go (leb c 0x7F) refl
 pub sep-tail : (b : ℕ) (t : List ℕ) → 0x80 ≤ b → b ≤ 0xBF → sepWidth (b ∷ t) ≡ 0
 unfolding sepWidth
 sep-tail b t l h = ap (λ x. cond x 1 0) (sep-high b l)
+
+sep-le : (s : List ℕ) → sepWidth s ≤ length s
+unfolding sepWidth isSep
+sep-le [] = omega arith
+sep-le (b ∷ s) = cond-le (isSep b) 1 (suc (length s)) (omega arith)
+
+-- ---- either
+
+pub gap-le : (white : Bool) (s : List ℕ) → gapWidth white s ≤ length s
+unfolding gapWidth
+gap-le true s = white-le s
+gap-le false s = sep-le s
+
+-- below 80 a byte is a gap by itself; from 80 on it begins White_Space or nothing
+pub gap-ascii : (white : Bool) (b : ℕ) (t : List ℕ) → b ≤ 0x7F → gapWidth white (b ∷ t) ≡ cond (gapByte white b) 1 0
+unfolding gapWidth sepWidth
+gap-ascii true b t h = width-ascii b t h
+gap-ascii false b t h = refl
+
+pub gap-high : (b : ℕ) (t : List ℕ) → 0x80 ≤ b → gapWidth false (b ∷ t) ≡ 0
+unfolding gapWidth sepWidth
+gap-high b t h = ap (λ x. cond x 1 0) (sep-high b h)
+
+-- ---- which bytes are gaps by themselves
+
+pub both-gaps : (white : Bool) {b : ℕ} → (b ≡ 0x09) ⊎ (b ≡ 0x20) → true ≡ gapByte white b
+unfolding isWhite isSep
+both-gaps true (inl e) = ap isWhite (sym e)
+both-gaps true (inr e) = ap isWhite (sym e)
+both-gaps false (inl e) = ap isSep (sym e)
+both-gaps false (inr e) = ap isSep (sym e)
+
+-- one or the other
+either : (b n : ℕ) → n ≤ b → b ≤ n + 1 → (b ≡ n) ⊎ (b ≡ n + 1)
+either b n l h = elim (ℕ-discrete b n) [
+  | yes e ↦ inl e
+  | no d ↦ inr (omega arith)
+]
+
+pub feeds : (white : Bool) {b : ℕ} → 0x0C ≤ b → b ≤ 0x0D → true ≡ gapByte white b
+unfolding isWhite isSep
+feeds white {b} l h = go white (either b 0x0C l h)
+  where
+    go : (white : Bool) → (b ≡ 0x0C) ⊎ (b ≡ 0x0D) → true ≡ gapByte white b
+    go true (inl e) = ap isWhite (sym e)
+    go true (inr e) = ap isWhite (sym e)
+    go false (inl e) = ap isSep (sym e)
+    go false (inr e) = ap isSep (sym e)
+
+pub white-only : (white : Bool) {b : ℕ} → 0x0A ≤ b → b ≤ 0x0B → white ≡ gapByte white b
+unfolding isWhite isSep
+white-only white {b} l h = go white (either b 0x0A l h)
+  where
+    go : (white : Bool) → (b ≡ 0x0A) ⊎ (b ≡ 0x0B) → white ≡ gapByte white b
+    go true (inl e) = ap isWhite (sym e)
+    go true (inr e) = ap isWhite (sym e)
+    go false (inl e) = ap isSep (sym e)
+    go false (inr e) = ap isSep (sym e)
+
+pub no-gaps : (white : Bool) {b : ℕ} → b < 0x80 → ((b ≡ 0x09) ⊎ (b ≡ 0x20) → ⊥) → (In 0x0A 0x0D b → ⊥) → false ≡ gapByte white b
+unfolding isSep
+no-gaps true {b} h k r =
+    sym
+    (no-white b (
+      (λ i. elim (ℕ-discrete b 0x09) [ yes e ↦ k (inl e) | no d ↦ r (record { from = omega arith; to = omega arith }) ]),
+      ((λ i. k (inr (omega arith))), outside (omega arith)),
+    ))
+  where
+    outside : b < 0x85 → Outside b (drop 2 whites)
+    outside h = (
+      (λ i. omega arith),
+      (
+        (λ i. omega arith),
+        (
+          (λ i. omega arith),
+          ((λ i. omega arith), ((λ i. omega arith), ((λ i. omega arith), ((λ i. omega arith), ((λ i. omega arith), ((λ i. omega arith), tt)))))),
+        ),
+      ),
+    )
+no-gaps false {b} h k r =
+    sym
+    (rw (
+      ne-eqb b 0x09 (λ e. k (inl e)),
+      ne-eqb b 0x0C (λ e. r (record { from = omega arith; to = omega arith })),
+      ne-eqb b 0x0D (λ e. r (record { from = omega arith; to = omega arith })),
+      ne-eqb b 0x20 (λ e. k (inr e)),
+    ))

@@ -1,6 +1,7 @@
 -- What the answers of the program say, in the paper's terms.
 -- Assumes nothing.
-use Rattle.line.specs.Marks.{Mark, marks, inGap, hashMark, gapWidth, whiteWidth, wordsBytes, bodyBytes}
+use Rattle.text.specs.Answers.{whiteWidth}
+use Rattle.line.specs.Marks.{Mark, marks, inGap, hashMark, gapWidth, wordsBytes, bodyBytes}
 use Prim.Native.Nat.{ℕ, _+_, _≤_, _<_}
 use mathlib.Core.Path.{_≡_}
 use mathlib.Core.Bool.{Bool, true, false, not, cond}
@@ -10,8 +11,8 @@ use lib.ListN.{length, take, drop}
 use Rattle.paper.specs.Lists.{empty, until, trimStart, trimEnd}
 use Rattle.paper.specs.CharDef.Line.{Line, blank, category, range, begins0x}
 use Rattle.paper.specs.Computed.ReadText.{Found, found, wrong, parts, categoryOf}
-use Rattle.number.specs.declared.Bound.{Bound}
-use Rattle.number.specs.declared.Bound.the-variants.{Code, NoBound}
+use Rattle.numeral.specs.declared.Bound.{Bound}
+use Rattle.numeral.specs.declared.Bound.the-variants.{Code, NoBound}
 use Rattle.line.specs.declared.Part.{Part}
 use Rattle.line.specs.declared.CategoryLine.{CategoryLine}
 use Rattle.line.specs.declared.RangeLine.{RangeLine}
@@ -21,8 +22,8 @@ use Rattle.line.specs.declared.LineAnswer.the-variants.{Read, Refused}
 use Rattle.line.specs.declared.Four.{Four}
 use Rattle.line.specs.declared.Fields.{Fields}
 use Rattle.line.specs.declared.Fields.the-variants.{Are, NotFour}
-use Rattle.number.specs.declared.Number.{Number}
-use Rattle.number.specs.declared.Number.the-variants.{Value, Bad}
+use Rattle.numeral.specs.declared.Number.{Number}
+use Rattle.numeral.specs.declared.Number.the-variants.{Value, Bad}
 use Rattle.line.specs.declared.DotsAt.{DotsAt}
 use Rattle.line.specs.declared.DotsAt.the-variants.{At, Nowhere}
 

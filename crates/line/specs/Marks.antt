@@ -1,14 +1,14 @@
 -- A line's bytes, said without decoding: each byte is marked by whether it belongs to a gap between words,
 -- and what the paper says of characters is said of marked bytes. `Bridge` shows that on UTF-8 both say the same.
 -- Assumes nothing.
-use Prim.Native.Nat.{ℕ, zero, suc, _+_, _-_}
-use mathlib.Core.Bool.{Bool, true, false, not, cond, _&&_, _||_}
-use mathlib.Core.List.{List, [], _∷_, _++_, map}
-use lib.Dec.{leb, ltb, eqb}
-use lib.ListN.{length, getD}
+use Prim.Native.Nat.{ℕ, zero, suc, _-_}
+use mathlib.Core.Bool.{Bool, true, false, not, cond, _&&_}
+use mathlib.Core.List.{List, [], _∷_, map}
+use lib.Dec.{ltb, eqb}
+use lib.ListN.{getD}
 use Rattle.text.specs.Answers.{whiteWidth}
-use Rattle.paper.specs.Lists.{any, empty, words, until, trimStart, trimEnd}
-use Rattle.paper.specs.Text.Scalar.{between, isWhite, isSep, utf8}
+use Rattle.paper.specs.Lists.{words, until, trimStart, trimEnd}
+use Rattle.paper.specs.Text.Scalar.{isWhite, isSep, utf8}
 use Rattle.paper.specs.CharDef.Line.{Line, blank, category, range, begins0x}
 use Rattle.paper.specs.Computed.ReadText.{Found, found, wrong, rangeOf, categoryOf}
 
@@ -24,6 +24,11 @@ unfoldable pub gapWidth : Bool → List ℕ → ℕ
 unfolding whiteWidth sepWidth
 gapWidth true s = whiteWidth s
 gapWidth false s = sepWidth s
+
+-- a byte below 80 that is a gap by itself
+abbrev pub gapByte : Bool → ℕ → Bool
+gapByte true b = isWhite b
+gapByte false b = isSep b
 
 -- ---- marked bytes
 

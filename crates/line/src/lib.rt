@@ -1,5 +1,5 @@
 // A line of char.def, read from the bytes of a text: blank, a category line, a range line, or the number of its refusal.
-ghost use Rattle.line.specs.Marks.{sepWidth, gapWidth, whiteWidth, marks, inGap, hashMark, wordsBytes, bodyBytes, lineBytes};
+ghost use Rattle.line.specs.Marks.{gapByte, gapWidth, wordsBytes, lineBytes};
 ghost use mathlib.Core.Path.{_≡_};
 ghost use mathlib.Core.Bool.{true, false};
 ghost use Prim.Native.Nat.{ℕ, _+_, _≤_, _<_};
@@ -8,8 +8,22 @@ ghost use Rattle.paper.specs.Lists.{until, trimEnd};
 ghost use Rattle.paper.specs.CharDef.Line.{begins0x};
 ghost use Rattle.paper.specs.Computed.ReadText.{rangeOf, categoryOf};
 ghost use Rattle.line.specs.Answer.{Inside, gapRun, wordRun, solid, Least, NextWord, Body, Dots, Begins, rangeAnswer, categoryAnswer, FieldsAre, bodyPart, Says};
-use number::Bound;
-use number::Number;
+use numeral::Bound;
+use numeral::Number;
+use paper::BOUND_UNREADABLE;
+use paper::CATEGORY_FIELDS;
+use paper::CATEGORY_NUMBER;
+use paper::RANGE_PARTS;
+
+const TAB: u8 = 0x09;
+
+const LF: u8 = 0x0A;
+
+const VT: u8 = 0x0B;
+
+const FF: u8 = 0x0C;
+
+const CR: u8 = 0x0D;
 
 // A part of the text.
 pub struct Part {
@@ -25,8 +39,8 @@ pub struct CategoryLine {
 }
 
 pub struct RangeLine {
-    pub lower: u32,
-    pub upper: u32,
+    pub lower: u16,
+    pub upper: u16,
     pub names: Part,
 }
 
@@ -60,34 +74,34 @@ pub enum DotsAt {
     Nowhere,
 }
 
-// 1 at TAB, FF, CR and space.
-fn sep_width(text: &[u8], at: usize, end: usize) -> usize
-    ensures { λ r. ⌜ r ≡ sepWidth (drop at (take end (now (text .entry)))) ⌝ }
+// An ASCII character that is a gap: TAB, FF, CR and space between the words of either kind of line, LF and VT as White_Space only.
+fn is_gap(b: u8, white: bool) -> bool
+    requires { ⌜ b < 0x80 ⌝ }
+    ensures { λ r. ⌜ r ≡ gapByte white b ⌝ }
 {
-    let b = text::byte_at(text, at, end, 0);
-    if b == 9 {
-        return 1;
+    match b {
+        TAB | FF | CR | b' ' => true,
+        LF | VT => white,
+        _ => false,
     }
-    if b == 12 {
-        return 1;
-    }
-    if b == 13 {
-        return 1;
-    }
-    if b == 32 {
-        return 1;
-    }
-    0
 }
 
 // How many bytes of a gap between words stand at `at`: White_Space, or a category line's separator.
 fn gap_width(text: &[u8], at: usize, end: usize, white: bool) -> usize
+    requires { ⌜ (at < end) × (end ≤ length (now text)) ⌝ }
     ensures { λ r. ⌜ r ≡ gapWidth white (drop at (take end (now (text .entry)))) ⌝ }
 {
-    if white {
-        return text::white_width(text, at, end);
+    let b = text[at];
+    if b < 0x80 {
+        if is_gap(b, white) {
+            return 1;
+        }
+        return 0;
     }
-    sep_width(text, at, end)
+    if white {
+        return text::white_width(&text[..end], at);
+    }
+    0
 }
 
 // Past the gap at `start`.
@@ -130,7 +144,7 @@ fn solid_end(text: &[u8], start: usize, end: usize) -> usize
     let mut at = start;
     let mut last = start;
     while at < end {
-        let w = text::white_width(text, at, end);
+        let w = gap_width(text, at, end, true);
         if w == 0 {
             if text[at] == b'#' {
                 return last;
@@ -252,7 +266,7 @@ fn parse_range(text: &[u8], start: usize, end: usize) -> LineAnswer
     let first = w.start;
     let stop = w.end;
     if stop <= first {
-        return LineAnswer::Refused(5);
+        return LineAnswer::Refused(BOUND_UNREADABLE);
     }
     let names = Part {
         start: stop,
@@ -260,14 +274,14 @@ fn parse_range(text: &[u8], start: usize, end: usize) -> LineAnswer
     };
     match find_dots(text, first, stop) {
         DotsAt::Nowhere => {
-            let b = number::parse_hex_codepoint(text, first, stop);
+            let b = numeral::parse_hex_codepoint(text, first, stop);
             range_of(b, b, names)
         }
         DotsAt::At(at) => match find_dots(text, at + 2, stop) {
-            DotsAt::At(_) => LineAnswer::Refused(4),
+            DotsAt::At(_) => LineAnswer::Refused(RANGE_PARTS),
             DotsAt::Nowhere => {
-                let lower = number::parse_hex_codepoint(text, first, at);
-                let upper = number::parse_hex_codepoint(text, at + 2, stop);
+                let lower = numeral::parse_hex_codepoint(text, first, at);
+                let upper = numeral::parse_hex_codepoint(text, at + 2, stop);
                 range_of(lower, upper, names)
             }
         },
@@ -315,11 +329,11 @@ fn category_of(name: Part, invoke: Number, group: Number, length: Number) -> Lin
     ensures { λ r. ⌜ r ≡ categoryAnswer name invoke group length ⌝ }
 {
     match invoke {
-        Number::Bad => LineAnswer::Refused(8),
+        Number::Bad => LineAnswer::Refused(CATEGORY_NUMBER),
         Number::Value(i) => match group {
-            Number::Bad => LineAnswer::Refused(8),
+            Number::Bad => LineAnswer::Refused(CATEGORY_NUMBER),
             Number::Value(g) => match length {
-                Number::Bad => LineAnswer::Refused(8),
+                Number::Bad => LineAnswer::Refused(CATEGORY_NUMBER),
                 Number::Value(n) => LineAnswer::Read(Line::Category(CategoryLine {
                     invoke: i == 1,
                     group: g == 1,
@@ -335,14 +349,14 @@ fn parse_category(text: &[u8], start: usize, end: usize) -> LineAnswer
     ensures { λ r. ⌜ Says (now (text .entry)) (record { start = start; end = end }) (categoryOf (wordsBytes (gapWidth false) (drop start (take end (now (text .entry)))))) r ⌝ }
 {
     match fields_of(text, start, end) {
-        Fields::NotFour => LineAnswer::Refused(7),
+        Fields::NotFour => LineAnswer::Refused(CATEGORY_FIELDS),
         Fields::Are(f) => {
             let i = f.invoke;
             let g = f.group;
             let n = f.length;
-            let invoke = number::parse_u32(text, i.start, i.end);
-            let group = number::parse_u32(text, g.start, g.end);
-            let length = number::parse_u32(text, n.start, n.end);
+            let invoke = numeral::parse_u32(text, i.start, i.end);
+            let group = numeral::parse_u32(text, g.start, g.end);
+            let length = numeral::parse_u32(text, n.start, n.end);
             let name = f.name;
             category_of(name, invoke, group, length)
         }

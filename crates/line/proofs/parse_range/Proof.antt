@@ -15,7 +15,7 @@ use Rattle.line.proofs.parse_range.Lts as lts
 use Rattle.line.proofs.find_dots.Reads as find-dots-reads
 use Rattle.line.proofs.next_word.Reads as next-word-reads
 use Rattle.line.proofs.range_of.Reads as range-of-reads
-use Rattle.number.proofs.parse_hex_codepoint.Reads as parse-hex-codepoint-reads
+use Rattle.numeral.proofs.parse_hex_codepoint.Reads as parse-hex-codepoint-reads
 
 -- src/lib.rt:227:9
 next-word-requires : tie.Need-next-word-requires
