@@ -1,28 +1,28 @@
 -- On UTF-8 a line's bytes say what its characters say: `line-bridge`.
 -- Assumes nothing.
-use Prim.Native.Nat.{ℕ, zero, suc, _+_, _-_, _<_, _≤_}
+use Prim.Native.Nat.{ℕ, _<_, _≤_}
 use native.Mathlib.Omega.{arith}
-use mathlib.Core.Path.{_≡_, refl, sym, ap, ap₂, _∙_, subst}
-use mathlib.Core.Bool.{Bool, true, false, not, cond, _&&_, _||_}
+use mathlib.Core.Path.{_≡_, refl, sym, ap, _∙_, subst}
+use mathlib.Core.Bool.{Bool, true, false, cond, _&&_}
 use mathlib.Core.Option.{Option, none, some}
 use mathlib.Core.List.{List, [], _∷_, _++_, map}
-use lib.Dec.{T, leb, ltb, eqb}
+use lib.Dec.{T, leb, eqb}
 use mir.Facts.{and-yes, yes-and, leb-yes}
-use borrow.Author.Tests.{lt-leb, le-ltb, eqb-true, eqb-false, ne-eqb}
-use Rattle.paper.specs.Lists.{all, full, empty, push, words, until, trimStart, trimEnd}
+use borrow.Author.Tests.{lt-leb, le-ltb, eqb-true, ne-eqb}
+use Rattle.paper.specs.Lists.{all, full, push, words, until, trimStart, trimEnd}
 use Rattle.paper.specs.Text.Scalar.{between, isWhite, isSep, utf8Of, utf8}
-use Rattle.paper.specs.CharDef.Line.{Line, blank, category, range, isHash, begins0x}
-use Rattle.paper.specs.Numbers.Numeral.{digitOf, isDigit, valueAfter}
+use Rattle.paper.specs.CharDef.Line.{isHash, begins0x}
+use Rattle.paper.specs.Numbers.Numeral.{digitOf, isDigit}
 use Rattle.paper.specs.Computed.Decode.{isTail}
 use Rattle.paper.specs.Computed.Numeral.{dropPlus, spelledBy, numeral}
-use Rattle.paper.specs.Computed.ReadText.{Found, found, wrong, BoundFound, boundIs, noBound, strip0x, parts, checkedBound, boundOf, fromBounds, fromParts, rangeOf, fromNumbers, categoryOf, body, bodyLine, lineOf}
-use Rattle.paper.proofs.Lists.Facts.{T→true, T→false, true→T, un, pushAll, full-all}
+use Rattle.paper.specs.Computed.ReadText.{Found, BoundFound, boundIs, noBound, strip0x, parts, checkedBound, boundOf, fromBounds, fromParts, rangeOf, fromNumbers, categoryOf, body, bodyLine, lineOf}
+use Rattle.paper.proofs.Lists.Facts.{true→T, un, pushAll, full-all}
 use Rattle.paper.proofs.Text.Bytes.{pushAll-utf8}
-use Rattle.line.proofs.Spread.{spread, Agrees, until-spread, trimStart-spread, trimEnd-spread}
+use Rattle.line.proofs.Spread.{Agrees, until-spread, trimStart-spread, trimEnd-spread}
 use Rattle.text.specs.Answers.{whiteWidth}
-use Rattle.line.specs.Marks.{Mark, byte, inGap, hashMark, marks, gapWidth, wordsBytes, bodyBytes, bodyLineBytes, lineBytes, inBytes}
+use Rattle.line.specs.Marks.{byte, inGap, hashMark, gapWidth, wordsBytes, bodyBytes, bodyLineBytes, lineBytes, inBytes}
 use Rattle.line.proofs.Widths.{white-lead, white-tail, sep-lead, sep-tail}
-use Rattle.line.proofs.Bridge.{Front, low, high, front, tag, tagged, alike-gap, byte-spread, marks-utf8, words-utf8}
+use Rattle.line.proofs.Bridge.{low, high, front, tag, tagged, alike-gap, byte-spread, marks-utf8, words-utf8}
 
 -- ---- the body
 

@@ -4,19 +4,18 @@
 use Rattle.line.specs.Marks.{lineBytes, inBytes}
 use Rattle.line.proofs.LineBridge.{line-bridge}
 use mathlib.Core.Path.{_≡_, refl, sym, ap, _∙_}
-use mathlib.Core.List.{List, map}
-use mathlib.Core.Bool.{Bool, true, false}
+use mathlib.Core.List.{List}
 use Prim.Native.Nat.{ℕ}
 use native.Mathlib.Omega.{arith}
 use lib.ListN.{take, drop}
 use Rattle.paper.specs.Text.Scalar.{utf8}
-use Rattle.paper.specs.CharDef.Line.{Line, blank, category, range}
+use Rattle.paper.specs.CharDef.Line.{blank}
 use Rattle.paper.specs.Computed.ReadText.{Found, found, wrong, lineOf}
 use Rattle.line.specs.declared.Part.{Part}
 use Rattle.line.specs.declared.LineAnswer.{LineAnswer}
 use Rattle.line.specs.declared.LineAnswer.the-variants.{Read, Refused}
 use Rattle.line.specs.declared.Line.the-variants.{Blank, Category, Range}
-use Rattle.line.specs.Answer.{said, bytesOf, bodyPart, Says}
+use Rattle.line.specs.Answer.{said, bodyPart, Says}
 
 pub line-read : (text : List ℕ) (start end : ℕ) (r : LineAnswer) (cs : List ℕ)
     → Says text (bodyPart text start end) (lineBytes (drop start (take end text))) r

@@ -7,16 +7,14 @@ use Rattle.line.proofs.Widths.{white-le, gap-le, gap-ascii, gap-high}
 use Rattle.line.proofs.Bridge.{tag, marks-gap, marks-solid, marks-nil}
 use Prim.Native.Nat.{ℕ, zero, suc, _+_, _-_, _≤_, _<_}
 use native.Mathlib.Omega.{arith}
-use mathlib.Core.Path.{_≡_, refl, sym, ap, ap₂, _∙_, subst}
-use mathlib.Core.Bool.{Bool, true, false, not, cond, _&&_, _||_}
-use mathlib.Core.List.{List, [], _∷_, _++_, map}
-use mathlib.Core.Logic.{_⊎_, inl, inr}
-use lib.Dec.{T, leb, ltb, eqb}
-use lib.ListN.{length, take, drop, getD, length-append, take-append-drop, length-drop}
+use mathlib.Core.Path.{_≡_, refl, sym, ap, ap₂, _∙_}
+use mathlib.Core.Bool.{Bool, true, false, not, cond, _&&_}
+use mathlib.Core.List.{List, [], _∷_, _++_}
+use lib.Dec.{T, eqb}
+use lib.ListN.{length, take, drop, getD, length-append, take-append-drop}
 use lib.Seq.{drop-drop, length-take-le}
-use borrow.Author.Tests.{lt-leb, le-leb, eq-eqb, ne-eqb}
-use Rattle.paper.specs.Lists.{all, full, empty, until, trimStart, trimEnd}
-use Rattle.paper.specs.Text.Scalar.{between, isWhite, isSep}
+use borrow.Author.Tests.{ne-eqb}
+use Rattle.paper.specs.Lists.{all, full, empty, until, trimEnd}
 use Rattle.paper.proofs.Lists.Facts.{un}
 use Rattle.paper.proofs.Lists.Parts.{nothing, uncons, part-length}
 use Rattle.line.specs.Answer.{gapRun, wordRun, solid}

@@ -1,15 +1,16 @@
 -- Words and bodies at places of a text, whose ends may lie past it; and the pieces between `..`.
 -- Assumes nothing.
 use Rattle.line.proofs.LineBridge.{parts-off, parts-off₂}
-use Rattle.text.specs.Answers.{whiteWidth}
-use Rattle.line.specs.Marks.{Mark, marks, gapWidth, wordsBytes, bodyBytes}
-use Prim.Native.Nat.{ℕ, zero, suc, _+_, _-_, _≤_, _<_}
+use Rattle.line.specs.Marks.{gapWidth, wordsBytes, bodyBytes}
+use Prim.Native.Nat.{ℕ, _+_, _-_, _≤_, _<_}
 use native.Mathlib.Omega.{arith}
-use mathlib.Core.Path.{_≡_, refl, sym, ap, ap₂, _∙_, subst}
-use mathlib.Core.Bool.{Bool, true, false, not, cond, _&&_, _||_}
-use mathlib.Core.List.{List, [], _∷_, _++_, map, append-assoc}
-use lib.Dec.{T, leb, ltb, eqb}
-use lib.ListN.{length, take, drop, getD, length-take, length-drop}
+use Rattle.line.specs.declared.DotsAt.{DotsAt}
+use Rattle.line.specs.declared.DotsAt.the-variants.{At, Nowhere}
+use mathlib.Core.Path.{subst, _≡_, refl, sym, ap, ap₂, _∙_}
+use mathlib.Core.Bool.{Bool, true, false, _&&_}
+use mathlib.Core.List.{List, [], _∷_, _++_}
+use lib.Dec.{eqb}
+use lib.ListN.{length, take, drop, getD}
 use lib.Seq.{take-take, length-take-le, take-suc, drop-append-le}
 use native.Mathlib.Numerals.{add-one}
 use native.Mathlib.Decide.{decLe}
@@ -18,9 +19,10 @@ use Rattle.paper.specs.Lists.{push, words}
 use Rattle.paper.specs.CharDef.Line.{begins0x}
 use Rattle.paper.specs.Computed.ReadText.{parts}
 use Rattle.paper.proofs.Lists.Facts.{pushAll, pushAll-first}
-use Rattle.paper.proofs.Lists.Parts.{nothing, uncons, part-length, take-part, clamp}
-use Rattle.line.specs.declared.Part.{Part}
-use Rattle.line.specs.Answer.{gapRun, wordRun, solid, word-and, bytesOf, NextWord, Body, Least, Cut}
+use Rattle.paper.proofs.Lists.Parts.{nothing, uncons, clamp}
+use Rattle.line.specs.Answer.{gapRun, wordRun, solid, word-and, NextWord, Body}
+use Rattle.line.specs.Asked.{Cut, Uncut, Dots}
+use Rattle.numeral.specs.Asked.{Least}
 use Rattle.line.proofs.Scan.{skip-end, word-stop-end}
 use Rattle.line.proofs.Runs.{from-le, to-le, word-law, body-law, body-within, words-none, body-none}
 
@@ -171,16 +173,18 @@ module _ (l : List ℕ) (start end : ℕ) (m : end ≤ length l) where
   pub passed-none : Passed l start end start
   passed-none = sym (ap (λ s. pushAll s (parts (drop start (take end l)))) (nothing l start start (omega arith)))
 
-  pub passed-all : (at : ℕ) → at ≡ end → Passed l start end at → parts (drop start (take end l)) ≡ drop start (take end l) ∷ []
-  passed-all at e p =
-      p ∙ ap (λ s. pushAll (drop start (take at l)) (parts s)) (nothing l at end (omega arith)) ∙ pushAll-first (λ x. true) (drop start (take at l)) []
-      ∙ ap (λ n. drop start (take n l) ∷ []) e
+  pub passed-all : (at : ℕ) → at ≡ end → Passed l start end at → Uncut l start end
+  passed-all at e p = record {
+    pieces =
+        p ∙ ap (λ s. pushAll (drop start (take at l)) (parts s)) (nothing l at end (omega arith)) ∙ pushAll-first (λ x. true) (drop start (take at l)) []
+        ∙ ap (λ n. drop start (take n l) ∷ []) e;
+  }
 
   module _ (at : ℕ) (h : start ≤ at) (p : Passed l start end at) where
     step : at < end → parts (drop at (take end l)) ≡ push (getD l at 0) (parts (drop (at + 1) (take end l))) → Passed l start end (at + 1)
     step k e = p ∙ ap (pushAll (drop start (take at l))) e ∙ more l start at h (omega arith) (parts (drop (at + 1) (take end l)))
 
-    pub passed-last : at < end → end - at < 2 → parts (drop start (take end l)) ≡ drop start (take end l) ∷ []
+    pub passed-last : at < end → end - at < 2 → Uncut l start end
     passed-last k n =
         let e : at + 1 ≡ end = omega arith in
         passed-all (at + 1) e
@@ -204,3 +208,10 @@ module _ (l : List ℕ) (start end : ℕ) (m : end ≤ length l) where
           p ∙ ap (λ s. pushAll (drop start (take at l)) (parts s)) (two l at end k m) ∙ ap (pushAll (drop start (take at l))) (rw (e, f))
           ∙ pushAll-first (λ x. true) (drop start (take at l)) (parts (drop (at + 2) (take end l)));
     }
+
+-- an answer of `find_dots`, by the case that it is
+pub cut : {l : List ℕ} {start end at : ℕ} {r : DotsAt} → r ≡ At at → Dots l start end r → Cut l start end at
+cut {l} {start} {end} e d = subst (Dots l start end) e d
+
+pub uncut : {l : List ℕ} {start end : ℕ} {r : DotsAt} → r ≡ Nowhere → Dots l start end r → Uncut l start end
+uncut {l} {start} {end} e d = subst (Dots l start end) e d

@@ -6,13 +6,13 @@ use native.Mathlib.Omega.{arith}
 use native.Mathlib.Decide.{ℕ-discrete}
 use mathlib.Core.Path.{_≡_, refl, sym, ap, _∙_}
 use mathlib.Core.Logic.{_⊎_, inl, inr}
-use mathlib.Core.Bool.{Bool, true, false, cond, _&&_, _||_}
+use mathlib.Core.Bool.{Bool, true, false, cond, _&&_}
 use mathlib.Core.List.{List, [], _∷_, _++_}
 use lib.Dec.{leb}
 use lib.ListN.{length, drop, getD}
 use borrow.Author.Tests.{lt-leb, leb-true, leb-false, ne-eqb}
 use Rattle.paper.specs.Text.Scalar.{between, In, whites, isWhite, isSep, utf8Of}
-use Rattle.paper.specs.Computed.Decode.{First, bad, good, lowest, highest, isTail, three, four, first}
+use Rattle.paper.specs.Computed.Decode.{First, bad, good, isTail, first}
 use Rattle.paper.proofs.Text.Scalar.{scalar-low, scalar-high}
 use Rattle.paper.proofs.Text.Lengths.{enc-1, enc-2, enc-3, enc-4}
 use Rattle.text.specs.Answers.{whiteBy, whiteWidth}

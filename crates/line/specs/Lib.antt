@@ -1,2 +1,3 @@
 pub mod Marks
 pub mod Answer
+pub mod Asked

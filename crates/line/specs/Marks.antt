@@ -9,7 +9,7 @@ use lib.ListN.{getD}
 use Rattle.text.specs.Answers.{whiteWidth}
 use Rattle.paper.specs.Lists.{words, until, trimStart, trimEnd}
 use Rattle.paper.specs.Text.Scalar.{isWhite, isSep, utf8}
-use Rattle.paper.specs.CharDef.Line.{Line, blank, category, range, begins0x}
+use Rattle.paper.specs.CharDef.Line.{blank, category, range, begins0x}
 use Rattle.paper.specs.Computed.ReadText.{Found, found, wrong, rangeOf, categoryOf}
 
 -- ---- how wide a gap's first character is, from the first bytes
