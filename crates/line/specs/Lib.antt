@@ -1,3 +1,4 @@
 pub mod Marks
 pub mod Answer
 pub mod Asked
+pub mod Fits
