@@ -3,11 +3,12 @@
 use Rattle.line.proofs.Spread.{until-run, until-stop, trimEnd-gone, trimEnd-stay}
 use Rattle.text.specs.Answers.{whiteWidth}
 use Rattle.line.specs.Marks.{Mark, inGap, hashMark, marks, gapWidth, gapByte}
-use Rattle.line.proofs.Widths.{white-le, gap-le, gap-ascii, gap-high}
+use Rattle.line.proofs.Widths.{white-le, white-none, gap-le, gap-ascii, gap-high}
 use Rattle.line.proofs.Bridge.{tag, marks-gap, marks-solid, marks-nil}
 use Prim.Native.Nat.{ℕ, zero, suc, _+_, _-_, _≤_, _<_}
 use native.Mathlib.Omega.{arith}
 use mathlib.Core.Path.{_≡_, refl, sym, ap, ap₂, _∙_}
+use mathlib.Core.Logic.{_⊎_}
 use mathlib.Core.Bool.{Bool, true, false, not, cond, _&&_}
 use mathlib.Core.List.{List, [], _∷_, _++_}
 use lib.Dec.{T, eqb}
@@ -235,6 +236,11 @@ module _ (l : List ℕ) (at end : ℕ) (white : Bool) where
         let q : getD l at 0 ≤ 0x7F = omega arith in
         ap (λ b. cond b 1 0) (sym f ∙ e) ∙ sym (gap-ascii white (getD l at 0) (drop (at + 1) (take end l)) q)
         ∙ ap (gapWidth white) (sym (uncons l at end h k))
+
+    pub width-other : 0x80 ≤ getD l at 0 → (getD l at 0 ≡ 0xC2 → ⊥) → (getD l at 0 < 0xE1) ⊎ (0xE3 < getD l at 0) → white ≡ true
+        → 0 ≡ gapWidth white (drop at (take end l))
+    unfolding gapWidth
+    width-other m f g e = sym (ap₂ gapWidth e (uncons l at end h k) ∙ white-none (getD l at 0) (drop (at + 1) (take end l)) m f g)
 
     pub width-none : 0x80 ≤ getD l at 0 → white ≡ false → 0 ≡ gapWidth white (drop at (take end l))
     width-none m e =

@@ -47,26 +47,15 @@ ill-F5 a s h =
     let h₄ : 0xEF < a = omega arith in
     rw (lt-leb a 0x7F h₁, lt-leb a 0xC1 h₂, lt-leb a 0xDF h₃, lt-leb a 0xEF h₄, lt-leb a 0xF4 h)
 
+-- White_Space beyond ASCII stands below U+3001, and but for two characters from U+1680 on
+white-far : (c : ℕ) → 0x3000 < c → isWhite c ≡ false
+white-far c h = no-white c ((λ i. omega arith), ((λ i. omega arith), ((λ i. omega arith), ((λ i. omega arith), ((λ i. omega arith), ((λ i. omega arith), ((λ i. omega arith), ((λ i. omega arith), ((λ i. omega arith), ((λ i. omega arith), ((λ i. omega arith), tt)))))))))))
+
+white-near : (c : ℕ) → 0x80 ≤ c → c < 0x1680 → (c ≡ 0x85 → ⊥) → (c ≡ 0xA0 → ⊥) → isWhite c ≡ false
+white-near c l h f g = no-white c ((λ i. omega arith), ((λ i. omega arith), ((λ i. omega arith), ((λ i. omega arith), ((λ i. omega arith), ((λ i. omega arith), ((λ i. omega arith), ((λ i. omega arith), ((λ i. omega arith), ((λ i. omega arith), ((λ i. omega arith), tt)))))))))))
+
 no-gap : (c : ℕ) (s : List ℕ) (n : ℕ) → 0xD800 ≤ c → whiteWidth s ≡ 0 → whiteWidth s ≡ cond (isWhite c) n 0
-no-gap c s n h e = e ∙ ap (λ x. cond x n 0) (sym (no-white c outside))
-  where
-    outside : Outside c whites
-    outside = (
-      (λ i. omega arith),
-      (
-        (λ i. omega arith),
-        (
-          (λ i. omega arith),
-          (
-            (λ i. omega arith),
-            (
-              (λ i. omega arith),
-              ((λ i. omega arith), ((λ i. omega arith), ((λ i. omega arith), ((λ i. omega arith), ((λ i. omega arith), ((λ i. omega arith), tt)))))),
-            ),
-          ),
-        ),
-      ),
-    )
+no-gap c s n h e = e ∙ ap (λ x. cond x n 0) (sym (white-far c (omega arith)))
 
 ill-surrogate : (c : ℕ) (t : List ℕ) → 0xD800 ≤ c → c ≤ 0xDFFF → whiteWidth (utf8Of c ++ t) ≡ 0
 ill-surrogate c t l h =
@@ -107,6 +96,42 @@ white-lead c t = go (leb c 0xD7FF) (leb c 0xDFFF) (leb c 0x10FFFF) refl refl ref
 
 pub white-tail : (b : ℕ) (t : List ℕ) → 0x80 ≤ b → b ≤ 0xBF → whiteWidth (b ∷ t) ≡ 0
 white-tail b t l h = width-tail b t (record { from = l; to = h })
+
+-- where a character's first byte is no first byte of White_Space
+module _ (b : ℕ) (t : List ℕ) (high : 0x80 ≤ b) (two : b ≡ 0xC2 → ⊥) (three : (b < 0xE1) ⊎ (0xE3 < b)) where
+  lead-no : (c : ℕ) (u : List ℕ) → b ∷ t ≡ utf8Of c ++ u → isWhite c ≡ false
+  lead-no c u e = go (leb c 0x7F) (leb c 0x7FF) (leb c 0xFFFF) refl refl refl three
+    where
+      first-is : {s : List ℕ} → utf8Of c ≡ s → b ≡ getD (s ++ u) 0 0
+      first-is d = ap (λ l. getD l 0 0) (e ∙ ap (λ s. s ++ u) d)
+
+      go : (x y z : Bool) → leb c 0x7F ≡ x → leb c 0x7FF ≡ y → leb c 0xFFFF ≡ z → (b < 0xE1) ⊎ (0xE3 < b) → isWhite c ≡ false
+      go true y z f g h o =
+          let l : c ≤ 0x7F = leb-true c 0x7F f in
+          let d : b ≡ c = first-is (enc-1 c l) in
+          absurd (omega arith)
+      go false true z f g h o =
+          let l : 0x80 ≤ c = leb-false c 0x7F f in
+          let m : c ≤ 0x7FF = leb-true c 0x7FF g in
+          let d : b ≡ 0xC0 + c / 64 = first-is (enc-2 c l m) in
+          white-near c l (omega arith) (λ q. omega arith) (λ q. omega arith)
+      go false false true f g h (inl o) =
+          let l : 0x800 ≤ c = leb-false c 0x7FF g in
+          let d : b ≡ 0xE0 + c / 4096 = first-is (enc-3 c l (leb-true c 0xFFFF h)) in
+          white-near c (omega arith) (omega arith) (λ q. omega arith) (λ q. omega arith)
+      go false false true f g h (inr o) =
+          let l : 0x800 ≤ c = leb-false c 0x7FF g in
+          let d : b ≡ 0xE0 + c / 4096 = first-is (enc-3 c l (leb-true c 0xFFFF h)) in
+          white-far c (omega arith)
+      go false false false f g h o = white-far c (omega (arith, leb-false c 0xFFFF h))
+
+  pub white-none : whiteWidth (b ∷ t) ≡ 0
+  unfolding whiteWidth
+  white-none = go (first b t) refl
+    where
+      go : (f : First) → first b t ≡ f → whiteBy f ≡ 0
+      go bad e = refl
+      go (good c extra) e = ap (λ x. cond x (suc extra) 0) (lead-no c (drop (suc extra) (b ∷ t)) (found (b ∷ t) c extra e .split))
 
 -- a gap's character stands whole
 cond-le : (x : Bool) (a n : ℕ) → a ≤ n → cond x a 0 ≤ n

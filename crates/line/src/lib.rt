@@ -30,6 +30,13 @@ const CR: u8 = 0x0D;
 // From here on a byte is part of a character of several.
 const ASCII_END: u8 = 0x80;
 
+// The first bytes of White_Space beyond ASCII: of U+0085 and 00A0, and of U+1680 to 3000.
+const WHITE_LEAD_2: u8 = 0xC2;
+
+const WHITE_LEAD_3: u8 = 0xE1;
+
+const WHITE_LEAD_3_END: u8 = 0xE3;
+
 // Bytes of `0x` and of `..`.
 const WIDTH_0X: usize = 2;
 
@@ -115,7 +122,10 @@ fn gap_width(text: &[u8], at: usize, end: usize, white: bool) -> usize
         return 0;
     }
     if white {
-        return text::white_width(&text[..end], at);
+        return match b {
+            WHITE_LEAD_2 | WHITE_LEAD_3..=WHITE_LEAD_3_END => text::white_width(&text[..end], at),
+            _ => 0,
+        };
     }
     0
 }
