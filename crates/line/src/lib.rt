@@ -274,7 +274,7 @@ fn range_of(lower: Bound, upper: Bound, names: Part) -> LineAnswer
     match lower {
         Bound::NoBound(n) => LineAnswer::Refused(n),
         Bound::Code(l) => match upper {
-            Bound::NoBound(n) => LineAnswer::Refused(n),
+            Bound::NoBound(m) => LineAnswer::Refused(m),
             Bound::Code(u) => LineAnswer::Read(Line::Range(RangeLine {
                 lower: l,
                 upper: u,
