@@ -15,8 +15,8 @@ use Rattle.paper.specs.Text.Scalar.{digit0, letterX}
 use Rattle.paper.specs.CharDef.Line.{standsFor}
 use Rattle.paper.specs.Computed.Numeral.{numeral}
 use Rattle.paper.specs.Computed.ReadText.{strip0x, boundIs, noBound, checkedBound, boundOf}
-use Rattle.paper.proofs.CharDef.Sound.{numeral-sound}
 use Rattle.paper.proofs.Lists.Parts.{nothing, uncons}
+use Rattle.paper.proofs.Numbers.Read.{numeral-sound}
 use Rattle.numeral.proofs.Digits.{below, above, within}
 
 -- ---- `0x`
@@ -25,7 +25,7 @@ strip-off : (a : ℕ) (s : List ℕ) → eqb a digit0 ≡ false → strip0x (a �
 strip-off a [] e = refl
 strip-off a (b ∷ s) e = rw e
 
-pub strip-off₂ : (a b : ℕ) (s : List ℕ) → eqb b letterX ≡ false → strip0x (a ∷ b ∷ s) ≡ a ∷ b ∷ s
+strip-off₂ : (a b : ℕ) (s : List ℕ) → eqb b letterX ≡ false → strip0x (a ∷ b ∷ s) ≡ a ∷ b ∷ s
 strip-off₂ a b s e = go (eqb a digit0)
   where
     go : (x : Bool) → cond (x && eqb b letterX) (strip0x s) (a ∷ b ∷ s) ≡ a ∷ b ∷ s
