@@ -3,7 +3,6 @@
 -- open: two answers that one allows coincide.
 -- Assumes nothing.
 use Prim.Native.Nat.{ℕ}
-use native.Mathlib.Omega.{arith}
 use mathlib.Core.Path.{_≡_, refl, sym, ap, _∙_, subst}
 use mathlib.Core.Logic.{_↔_}
 use mathlib.Core.Bool.{Bool, true}
@@ -14,6 +13,7 @@ use Rattle.paper.specs.CharDef.Line.{LineFits, blank, category, range}
 use Rattle.paper.specs.CharDef.Line as paper
 use Rattle.paper.specs.CharDef.BadLine.{Misfit}
 use Rattle.paper.specs.Computed.ReadText.{Found, found, wrong, lineOf}
+use Rattle.paper.proofs.Apart.{zero-one}
 use Rattle.paper.proofs.CharDef.Sound.{line-sound}
 use Rattle.paper.proofs.CharDef.Complete.{line-complete}
 use Rattle.paper.proofs.CharDef.BadLine.{line-misfit}
@@ -27,9 +27,6 @@ use Rattle.line.specs.Answer.{bytesOf, NextWord, Body, said, bodyPart, P
 use Rattle.line.specs.Fits.{Reads, StandsFor, a-blank, a-category, a-range, AnswerFits, reads, refuses}
 use Rattle.line.proofs.LineBridge.{line-bridge}
 use Rattle.line.proofs.Lines.{word-place, body-place}
-
-clash {ℓ} : {X : Type ℓ} → _≡_ {A = ℕ} 0 1 → X
-clash e = absurd (omega arith)
 
 -- ---- an answer by the paper's relations
 
@@ -48,23 +45,23 @@ module _ (text cs : List ℕ) where
     where
       go : (r : LineAnswer) (f : Found) → lineOf cs ≡ f → said text r ≡ inBytes f → AnswerFits text cs r
       go (Refused n) (wrong m) e h = let d : m ≡ n = cc in refuses (line-misfit cs n .0 (e ∙ ap wrong d))
-      go (Refused n) (found blank) e h = clash (cc)
-      go (Refused n) (found (category a i g k)) e h = clash (cc)
-      go (Refused n) (found (range a b ns)) e h = clash (cc)
-      go (Read Blank) (wrong m) e h = clash (cc)
+      go (Refused n) (found blank) e h = zero-one (cc)
+      go (Refused n) (found (category a i g k)) e h = zero-one (cc)
+      go (Refused n) (found (range a b ns)) e h = zero-one (cc)
+      go (Read Blank) (wrong m) e h = zero-one (cc)
       go (Read Blank) (found blank) e h = reads (line-sound cs blank e) a-blank
-      go (Read Blank) (found (category a i g k)) e h = clash (cc)
-      go (Read Blank) (found (range a b ns)) e h = clash (cc)
-      go (Read (Category l)) (wrong m) e h = clash (cc)
-      go (Read (Category l)) (found blank) e h = clash (cc)
+      go (Read Blank) (found (category a i g k)) e h = zero-one (cc)
+      go (Read Blank) (found (range a b ns)) e h = zero-one (cc)
+      go (Read (Category l)) (wrong m) e h = zero-one (cc)
+      go (Read (Category l)) (found blank) e h = zero-one (cc)
       go (Read (Category l)) (found (category a i g k)) e h =
           let d : bytesOf text (l .name) ≡ utf8 a = cc in
           let q : category a i g k ≡ category a (l .invoke) (l .group) (l .length) = cc in
           reads (line-sound cs _ (e ∙ ap found q)) (a-category d)
-      go (Read (Category l)) (found (range a b ns)) e h = clash (cc)
-      go (Read (Range l)) (wrong m) e h = clash (cc)
-      go (Read (Range l)) (found blank) e h = clash (cc)
-      go (Read (Range l)) (found (category a i g k)) e h = clash (cc)
+      go (Read (Category l)) (found (range a b ns)) e h = zero-one (cc)
+      go (Read (Range l)) (wrong m) e h = zero-one (cc)
+      go (Read (Range l)) (found blank) e h = zero-one (cc)
+      go (Read (Range l)) (found (category a i g k)) e h = zero-one (cc)
       go (Read (Range l)) (found (range a b ns)) e h =
           let d : wordsBytes (gapWidth true) (bytesOf text (l .names)) ≡ map utf8 ns = cc in
           let q : range a b ns ≡ range (l .lower) (l .upper) ns = cc in
@@ -97,7 +94,7 @@ module _ (text : List ℕ) (start end : ℕ) (cs : List ℕ) (spelled : drop sta
         go (Refused n) e (refuses m) =
             let a : lineOf cs ≡ wrong n = line-misfit cs n .1 m in
             let b : lineOf cs ≡ found line = line-complete cs line f in
-            clash (cc)
+            zero-one (cc)
 
     pub line-read : (l : Line) → r ≡ Read l → (line : paper.Line) × (LineFits cs line × StandsFor text l line)
     line-read l e = go (subst (AnswerFits text cs) e (line-fits r .0 p .0))
@@ -116,7 +113,7 @@ module _ (text : List ℕ) (start end : ℕ) (cs : List ℕ) (spelled : drop sta
         go (Read l) e (reads {line = line} f q) m =
             let a : lineOf cs ≡ wrong n = line-misfit cs n .1 m in
             let b : lineOf cs ≡ found line = line-complete cs line f in
-            clash (cc)
+            zero-one (cc)
         go (Refused k) e (refuses j) m =
             let a : lineOf cs ≡ wrong n = line-misfit cs n .1 m in
             let b : lineOf cs ≡ wrong k = line-misfit cs k .1 j in
@@ -135,25 +132,25 @@ module _ (text : List ℕ) (b : Part) where
   -- what is said, and where, is all that an answer has
   same-answer : (r s : LineAnswer) → said text r ≡ said text s → Placed text b r → Placed text b s → r ≡ s
   same-answer (Refused m) (Refused n) e p q = let d : m ≡ n = cc in ap Refused d
-  same-answer (Refused m) (Read Blank) e p q = clash (cc)
-  same-answer (Refused m) (Read (Category k)) e p q = clash (cc)
-  same-answer (Refused m) (Read (Range k)) e p q = clash (cc)
-  same-answer (Read Blank) (Refused n) e p q = clash (cc)
+  same-answer (Refused m) (Read Blank) e p q = zero-one (cc)
+  same-answer (Refused m) (Read (Category k)) e p q = zero-one (cc)
+  same-answer (Refused m) (Read (Range k)) e p q = zero-one (cc)
+  same-answer (Read Blank) (Refused n) e p q = zero-one (cc)
   same-answer (Read Blank) (Read Blank) e p q = refl
-  same-answer (Read Blank) (Read (Category k)) e p q = clash (cc)
-  same-answer (Read Blank) (Read (Range k)) e p q = clash (cc)
-  same-answer (Read (Category l)) (Refused n) e p q = clash (cc)
-  same-answer (Read (Category l)) (Read Blank) e p q = clash (cc)
+  same-answer (Read Blank) (Read (Category k)) e p q = zero-one (cc)
+  same-answer (Read Blank) (Read (Range k)) e p q = zero-one (cc)
+  same-answer (Read (Category l)) (Refused n) e p q = zero-one (cc)
+  same-answer (Read (Category l)) (Read Blank) e p q = zero-one (cc)
   same-answer (Read (Category l)) (Read (Category k)) e p q =
       let i : l .invoke ≡ k .invoke = cc in
       let g : l .group ≡ k .group = cc in
       let n : l .length ≡ k .length = cc in
       let d : l .name ≡ k .name = p ∙ sym q in
       λ x. Read (Category (record { invoke = i x; group = g x; length = n x; name = d x }))
-  same-answer (Read (Category l)) (Read (Range k)) e p q = clash (cc)
-  same-answer (Read (Range l)) (Refused n) e p q = clash (cc)
-  same-answer (Read (Range l)) (Read Blank) e p q = clash (cc)
-  same-answer (Read (Range l)) (Read (Category k)) e p q = clash (cc)
+  same-answer (Read (Category l)) (Read (Range k)) e p q = zero-one (cc)
+  same-answer (Read (Range l)) (Refused n) e p q = zero-one (cc)
+  same-answer (Read (Range l)) (Read Blank) e p q = zero-one (cc)
+  same-answer (Read (Range l)) (Read (Category k)) e p q = zero-one (cc)
   same-answer (Read (Range l)) (Read (Range k)) e p q =
       let i : l .lower ≡ k .lower = cc in
       let u : l .upper ≡ k .upper = cc in

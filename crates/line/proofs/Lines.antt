@@ -8,9 +8,8 @@ use mathlib.Core.Bool.{Bool, true, false, cond}
 use mathlib.Core.List.{List, [], _∷_}
 use lib.ListN.{length, take, drop, getD}
 use Rattle.paper.specs.Refusals.{rangeParts, boundUnreadable, categoryFields}
-use Rattle.paper.specs.Sizes.{maxU32}
+use Rattle.paper.specs.Sizes.{maxU32, lineFields}
 use Rattle.paper.specs.CharDef.Line.{begins0x}
-use Rattle.paper.specs.CharDef.BadLine.{neededFields}
 use Rattle.paper.specs.Computed.Numeral.{numeral}
 use Rattle.paper.specs.Computed.ReadText.{Found, wrong, parts, boundOf, fromBounds, fromParts, rangeOf, fromNumbers, categoryOf}
 use Rattle.paper.proofs.Lists.Parts.{nothing, uncons}
@@ -117,7 +116,7 @@ module _ {l : List ℕ} {start end : ℕ} {w : Part} (n : NextWord l start end t
 
 -- ---- category lines
 
-not-four : (ws : List (List ℕ)) → length ws ≢ neededFields → categoryOf ws ≡ wrong categoryFields
+not-four : (ws : List (List ℕ)) → length ws ≢ lineFields → categoryOf ws ≡ wrong categoryFields
 unfolding categoryOf
 not-four [] n = refl
 not-four (a ∷ []) n = refl
@@ -126,7 +125,7 @@ not-four (a ∷ b ∷ c ∷ []) n = refl
 not-four (a ∷ b ∷ c ∷ d ∷ []) n = absurd (n refl)
 not-four (a ∷ b ∷ c ∷ d ∷ e ∷ r) n = refl
 
-pub says-not-four : {l : List ℕ} {b : Part} (ws : List (List ℕ)) → length ws ≢ neededFields → Says l b (categoryOf ws) (Refused categoryFields)
+pub says-not-four : {l : List ℕ} {b : Part} (ws : List (List ℕ)) → length ws ≢ lineFields → Says l b (categoryOf ws) (Refused categoryFields)
 says-not-four ws n = says-refused (sym (not-four ws n))
 
 pub same-category : (name : Part) {i i′ g g′ n n′ : Number} → i ≡ i′ → g ≡ g′ → n ≡ n′ → categoryAnswer name i′ g′ n′ ≡ categoryAnswer name i g n

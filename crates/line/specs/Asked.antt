@@ -7,8 +7,8 @@ use mathlib.Core.Bool.{false}
 use mathlib.Core.List.{List, [], _∷_}
 use lib.Dec.{eqb}
 use lib.ListN.{length, take, drop}
+use Rattle.paper.specs.Sizes.{lineFields}
 use Rattle.paper.specs.Refusals.{categoryNumber}
-use Rattle.paper.specs.CharDef.BadLine.{neededFields}
 use Rattle.paper.specs.Computed.ReadText.{parts}
 use Rattle.numeral.specs.declared.Bound.{Bound}
 use Rattle.numeral.specs.declared.Bound.the-variants.{Code, NoBound}
@@ -67,7 +67,7 @@ pub record FourWords (text : List ℕ) (start end : ℕ) (f : Four) : Type 0 whe
   pub name : f .name ≡ wordPart false text start end
 
 abbrev pub FieldsAre : List ℕ → ℕ → ℕ → Fields → Type 0
-FieldsAre text start end NotFour = length (wordsBytes (gapWidth false) (drop start (take end text))) ≢ neededFields
+FieldsAre text start end NotFour = length (wordsBytes (gapWidth false) (drop start (take end text))) ≢ lineFields
 FieldsAre text start end (Are f) = FourWords text start end f
 
 -- the answer that a name and three numbers give
