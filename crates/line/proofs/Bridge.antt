@@ -1,4 +1,4 @@
--- On UTF-8 a line's bytes say what its characters say: `line-bridge`. Every step of `lineBytes` is a step of `lineOf`.
+-- The marks of UTF-8 are its characters', each spread over its bytes; so its words are the words of its characters.
 -- Assumes nothing.
 use Prim.Native.Nat.{ℕ, suc, _+_, _-_, _/_, _%_, _<_, _≤_}
 use native.Mathlib.Omega.{arith}

@@ -15,6 +15,7 @@ use lib.Dec.{T, eqb}
 use lib.ListN.{length, take, drop, getD, length-append, take-append-drop}
 use lib.Seq.{drop-drop, length-take-le}
 use borrow.Author.Tests.{ne-eqb}
+use Rattle.paper.specs.Text.Scalar.{hash}
 use Rattle.paper.specs.Lists.{all, full, empty, until, trimEnd}
 use Rattle.paper.proofs.Lists.Facts.{un}
 use Rattle.paper.proofs.Lists.Parts.{nothing, uncons, part-length}
@@ -36,7 +37,7 @@ tag-un (b ∷ s) = tag-un s
 
 tag-hash : (s : List ℕ) → T (all (un hashMark) (tag true s))
 tag-hash [] = tt
-tag-hash (b ∷ s) = go (eqb b 35) (tag-hash s)
+tag-hash (b ∷ s) = go (eqb b hash) (tag-hash s)
   where
     go : (x : Bool) → T (all (un hashMark) (tag true s)) → T (not (x && false) && all (un hashMark) (tag true s))
     go true t = t
@@ -154,13 +155,13 @@ solid-nil : solid [] ≡ []
 unfolding solid
 solid-nil = ap (λ m. trimEnd inGap (until hashMark m)) (marks-nil whiteWidth)
 
-solid-hash : (t : List ℕ) (b : ℕ) → b ≡ 35 → whiteWidth (b ∷ t) ≡ 0 → solid (b ∷ t) ≡ []
+solid-hash : (t : List ℕ) (b : ℕ) → b ≡ hash → whiteWidth (b ∷ t) ≡ 0 → solid (b ∷ t) ≡ []
 unfolding solid
 solid-hash t b e z = ap (λ m. trimEnd inGap (until hashMark m)) (marks-solid whiteWidth b t z) ∙ rw e
 
-solid-on : (t : List ℕ) (b : ℕ) → (b ≡ 35 → ⊥) → whiteWidth (b ∷ t) ≡ 0 → solid (b ∷ t) ≡ (b, false) ∷ solid t
+solid-on : (t : List ℕ) (b : ℕ) → (b ≡ hash → ⊥) → whiteWidth (b ∷ t) ≡ 0 → solid (b ∷ t) ≡ (b, false) ∷ solid t
 unfolding solid
-solid-on t b n z = ap (λ m. trimEnd inGap (until hashMark m)) (marks-solid whiteWidth b t z) ∙ rw (ne-eqb b 35 n)
+solid-on t b n z = ap (λ m. trimEnd inGap (until hashMark m)) (marks-solid whiteWidth b t z) ∙ rw (ne-eqb b hash n)
 
 solid-gap : (s : List ℕ) → 0 < whiteWidth s
     → solid s ≡ trimEnd inGap (tag true (take (whiteWidth s) s) ++ until hashMark (marks whiteWidth (drop (whiteWidth s) s)))
@@ -213,13 +214,13 @@ module _ (l : List ℕ) (at end last : ℕ) where
       zero-here : whiteWidth (getD l at 0 ∷ drop (at + 1) (take end l)) ≡ 0
       zero-here = ap whiteWidth (sym (uncons l at end h k)) ∙ sym e ∙ z
 
-      pub solid-stop : getD l at 0 ≡ 35 → endOf last at (solid (drop at (take end l))) ≡ last
+      pub solid-stop : getD l at 0 ≡ hash → endOf last at (solid (drop at (take end l))) ≡ last
       unfolding endOf
       solid-stop q =
           ap (λ s. endOf last at (solid s)) (uncons l at end h k)
           ∙ ap (endOf last at) (solid-hash (drop (at + 1) (take end l)) (getD l at 0) q zero-here)
 
-      pub solid-step : (getD l at 0 ≡ 35 → ⊥) → endOf last at (solid (drop at (take end l))) ≡ endOf (at + 1) (at + 1) (solid (drop (at + 1) (take end l)))
+      pub solid-step : (getD l at 0 ≡ hash → ⊥) → endOf last at (solid (drop at (take end l))) ≡ endOf (at + 1) (at + 1) (solid (drop (at + 1) (take end l)))
       unfolding endOf
       solid-step q =
           let t = solid (drop (at + 1) (take end l)) in

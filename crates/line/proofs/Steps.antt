@@ -16,6 +16,7 @@ use native.Mathlib.Numerals.{add-one}
 use native.Mathlib.Decide.{decLe}
 use borrow.Author.Tests.{eq-eqb, ne-eqb}
 use Rattle.paper.specs.Lists.{push, words}
+use Rattle.paper.specs.Text.Scalar.{dot, digit0, letterX}
 use Rattle.paper.specs.CharDef.Line.{begins0x}
 use Rattle.paper.specs.Computed.ReadText.{parts}
 use Rattle.paper.proofs.Lists.Facts.{pushAll, pushAll-first}
@@ -138,14 +139,14 @@ module _ (l : List ℕ) (at end : ℕ) where
   ]
 
   module _ (h : at + 1 < end) (k : end ≤ length l) where
-    pub begins-no : (getD l at 0 ≡ 48 → ⊥) → false ≡ begins0x (drop at (take end l))
-    begins-no n = sym (ap begins0x (two h k) ∙ ap (λ x. x && eqb (getD l (at + 1) 0) 120) (ne-eqb (getD l at 0) 48 n))
+    pub begins-no : (getD l at 0 ≡ digit0 → ⊥) → false ≡ begins0x (drop at (take end l))
+    begins-no n = sym (ap begins0x (two h k) ∙ ap (λ x. x && eqb (getD l (at + 1) 0) letterX) (ne-eqb (getD l at 0) digit0 n))
 
-    pub begins-no₂ : getD l at 0 ≡ 48 → (getD l (at + 1) 0 ≡ 120 → ⊥) → false ≡ begins0x (drop at (take end l))
-    begins-no₂ e n = sym (ap begins0x (two h k) ∙ ap₂ _&&_ (eq-eqb (getD l at 0) 48 e) (ne-eqb (getD l (at + 1) 0) 120 n))
+    pub begins-no₂ : getD l at 0 ≡ digit0 → (getD l (at + 1) 0 ≡ letterX → ⊥) → false ≡ begins0x (drop at (take end l))
+    begins-no₂ e n = sym (ap begins0x (two h k) ∙ ap₂ _&&_ (eq-eqb (getD l at 0) digit0 e) (ne-eqb (getD l (at + 1) 0) letterX n))
 
-    pub begins-yes : getD l at 0 ≡ 48 → getD l (at + 1) 0 ≡ 120 → true ≡ begins0x (drop at (take end l))
-    begins-yes e f = sym (ap begins0x (two h k) ∙ ap₂ _&&_ (eq-eqb (getD l at 0) 48 e) (eq-eqb (getD l (at + 1) 0) 120 f))
+    pub begins-yes : getD l at 0 ≡ digit0 → getD l (at + 1) 0 ≡ letterX → true ≡ begins0x (drop at (take end l))
+    begins-yes e f = sym (ap begins0x (two h k) ∙ ap₂ _&&_ (eq-eqb (getD l at 0) digit0 e) (eq-eqb (getD l (at + 1) 0) letterX f))
 
 add-two : (n : ℕ) → n + 1 + 1 ≡ n + 2
 add-two n = omega arith
@@ -190,17 +191,17 @@ module _ (l : List ℕ) (start end : ℕ) (m : end ≤ length l) where
         passed-all (at + 1) e
         (step k (ap parts (one l at end k n m) ∙ ap (λ s. push (getD l at 0) (parts s)) (sym (nothing l (at + 1) end (omega arith)))))
 
-    pub passed-other : at < end → (getD l at 0 ≡ 46 → ⊥) → Passed l start end (at + 1)
+    pub passed-other : at < end → (getD l at 0 ≡ dot → ⊥) → Passed l start end (at + 1)
     passed-other k n =
-        step k (ap parts (uncons l at end k m) ∙ parts-off (getD l at 0) (drop (at + 1) (take end l)) (ne-eqb (getD l at 0) 46 n))
+        step k (ap parts (uncons l at end k m) ∙ parts-off (getD l at 0) (drop (at + 1) (take end l)) (ne-eqb (getD l at 0) dot n))
 
-    pub passed-dot : at + 1 < end → (getD l (at + 1) 0 ≡ 46 → ⊥) → Passed l start end (at + 1)
+    pub passed-dot : at + 1 < end → (getD l (at + 1) 0 ≡ dot → ⊥) → Passed l start end (at + 1)
     passed-dot k n =
         step (omega arith)
-        (ap parts (two l at end k m) ∙ parts-off₂ (getD l at 0) (getD l (at + 1) 0) (drop (at + 2) (take end l)) (ne-eqb (getD l (at + 1) 0) 46 n)
+        (ap parts (two l at end k m) ∙ parts-off₂ (getD l at 0) (getD l (at + 1) 0) (drop (at + 2) (take end l)) (ne-eqb (getD l (at + 1) 0) dot n)
         ∙ ap (λ s. push (getD l at 0) (parts s)) (sym (uncons l (at + 1) end k m ∙ ap (λ i. getD l (at + 1) 0 ∷ drop i (take end l)) (add-two at))))
 
-    pub passed-found : at + 1 < end → getD l at 0 ≡ 46 → getD l (at + 1) 0 ≡ 46 → Cut l start end at
+    pub passed-found : at + 1 < end → getD l at 0 ≡ dot → getD l (at + 1) 0 ≡ dot → Cut l start end at
     passed-found k e f = record {
       from = h;
       within = omega arith;

@@ -154,29 +154,31 @@ unfolding isSep
 sep-high b h =
     rw (ne-eqb b 0x09 (λ k. omega arith), ne-eqb b 0x0C (λ k. omega arith), ne-eqb b 0x0D (λ k. omega arith), ne-eqb b 0x20 (λ k. omega arith))
 
+sep-byte : (b : ℕ) (t : List ℕ) → 0x80 ≤ b → sepWidth (b ∷ t) ≡ 0
+unfolding sepWidth
+sep-byte b t h = ap (λ x. cond x 1 0) (sep-high b h)
+
 -- a character from U+0080 has a first byte from 80
-high-lead : (c : ℕ) (t : List ℕ) → 0x80 ≤ c → 0x80 ≤ getD (utf8Of c ++ t) 0 255
-high-lead c t l = go (leb c 0x7FF) (leb c 0xFFFF) refl refl
+sep-none : (c : ℕ) (t : List ℕ) → 0x80 ≤ c → sepWidth (utf8Of c ++ t) ≡ 0
+sep-none c t l = go (leb c 0x7FF) (leb c 0xFFFF) refl refl
   where
-    go : (y z : Bool) → leb c 0x7FF ≡ y → leb c 0xFFFF ≡ z → 0x80 ≤ getD (utf8Of c ++ t) 0 255
-    go true z f g = let h : c ≤ 0x7FF = leb-true c 0x7FF f in rw (enc-2 c l h) (omega arith)
-    go false true f g =
-        let k : 0x800 ≤ c = leb-false c 0x7FF f in let h : c ≤ 0xFFFF = leb-true c 0xFFFF g in rw (enc-3 c k h) (omega arith)
-    go false false f g = let k : 0x10000 ≤ c = leb-false c 0xFFFF g in rw (enc-4 c k) (omega arith)
+    go : (y z : Bool) → leb c 0x7FF ≡ y → leb c 0xFFFF ≡ z → sepWidth (utf8Of c ++ t) ≡ 0
+    go true z f g = rw (enc-2 c l (leb-true c 0x7FF f)) (sep-byte (0xC0 + c / 64) _ (omega arith))
+    go false true f g = rw (enc-3 c (leb-false c 0x7FF f) (leb-true c 0xFFFF g)) (sep-byte (0xE0 + c / 4096) _ (omega arith))
+    go false false f g = rw (enc-4 c (leb-false c 0xFFFF g)) (sep-byte (0xF0 + c / 262144) _ (omega arith))
 
 pub sep-lead : (c : ℕ) (t : List ℕ) → sepWidth (utf8Of c ++ t) ≡ cond (isSep c) (length (utf8Of c)) 0
 unfolding sepWidth
 sep-lead c t = go (leb c 0x7F) refl
   where
-    go : (x : Bool) → leb c 0x7F ≡ x → cond (isSep (getD (utf8Of c ++ t) 0 255)) 1 0 ≡ cond (isSep c) (length (utf8Of c)) 0
-    go true e = let l : c ≤ 0x7F = leb-true c 0x7F e in rw (enc-1 c l)
+    go : (x : Bool) → leb c 0x7F ≡ x → sepWidth (utf8Of c ++ t) ≡ cond (isSep c) (length (utf8Of c)) 0
+    go true e = rw (enc-1 c (leb-true c 0x7F e))
     go false e =
         let l : 0x80 ≤ c = leb-false c 0x7F e in
-        ap (λ x. cond x 1 0) (sep-high (getD (utf8Of c ++ t) 0 255) (high-lead c t l)) ∙ ap (λ x. cond x (length (utf8Of c)) 0) (sym (sep-high c l))
+        sep-none c t l ∙ ap (λ x. cond x (length (utf8Of c)) 0) (sym (sep-high c l))
 
 pub sep-tail : (b : ℕ) (t : List ℕ) → 0x80 ≤ b → b ≤ 0xBF → sepWidth (b ∷ t) ≡ 0
-unfolding sepWidth
-sep-tail b t l h = ap (λ x. cond x 1 0) (sep-high b l)
+sep-tail b t l h = sep-byte b t l
 
 sep-le : (s : List ℕ) → sepWidth s ≤ length s
 unfolding sepWidth isSep
@@ -197,8 +199,8 @@ gap-ascii true b t h = width-ascii b t h
 gap-ascii false b t h = refl
 
 pub gap-high : (b : ℕ) (t : List ℕ) → 0x80 ≤ b → gapWidth false (b ∷ t) ≡ 0
-unfolding gapWidth sepWidth
-gap-high b t h = ap (λ x. cond x 1 0) (sep-high b h)
+unfolding gapWidth
+gap-high b t h = sep-byte b t h
 
 -- ---- which bytes are gaps by themselves
 
