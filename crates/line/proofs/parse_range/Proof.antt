@@ -62,17 +62,24 @@ range-of-requires-2 c κs = search needs
 
 returns-2 : tie.Need-returns-2
 returns-2 c =
-    one-bound ((c .before .before .before .before .before .before .next-word .ensures)) (omega arith) ((c .before .parse-hex-codepoint .result)) (uncut ((c .before .before .enum-told .given .1)) ((c .before .before .before .before .find-dots .ensures))) ((c .before .parse-hex-codepoint .ensures))
+    one-bound ((c .before .before .before .before .before .before .next-word .ensures)) (omega arith) ((c .before .parse-hex-codepoint .result))
+    (uncut ((c .before .before .enum-told .given .1)) ((c .before .before .before .before .find-dots .ensures)))
+    ((c .before .parse-hex-codepoint .ensures))
     ((c .range-of .ensures))
 
 returns-3 : tie.Need-returns-3
 returns-3 c =
-    more-bounds ((c .before .before .before .before .before .before .before .before .next-word .ensures)) (omega arith) (cut ((c .before .before .before .before .at .given .1)) ((c .before .before .before .before .before .before .find-dots .ensures))) (cut ((c .enum-told2 .given .1)) ((c .before .before .find-dots2 .ensures)))
+    more-bounds ((c .before .before .before .before .before .before .before .before .next-word .ensures)) (omega arith)
+    (cut ((c .before .before .before .before .at .given .1)) ((c .before .before .before .before .before .before .find-dots .ensures)))
+    (cut ((c .enum-told2 .given .1)) ((c .before .before .find-dots2 .ensures)))
 
 returns-4 : tie.Need-returns-4
 returns-4 c =
-    two-bounds ((c .before .before .before .before .before .before .before .before .before .before .before .next-word .ensures)) (omega arith) (cut ((c .before .before .before .before .before .before .before .at .given .1)) ((c .before .before .before .before .before .before .before .before .before .find-dots .ensures))) ((c .before .before .parse-hex-codepoint2 .result)) ((c .before .parse-hex-codepoint3 .result))
-    (uncut ((c .before .before .before .enum-told3 .given .1)) ((c .before .before .before .before .before .find-dots2 .ensures))) ((c .before .before .parse-hex-codepoint2 .ensures)) ((c .before .parse-hex-codepoint3 .ensures)) ((c .range-of2 .ensures))
+    two-bounds ((c .before .before .before .before .before .before .before .before .before .before .before .next-word .ensures)) (omega arith)
+    (cut ((c .before .before .before .before .before .before .before .at .given .1)) ((c .before .before .before .before .before .before .before .before .before .find-dots .ensures)))
+    ((c .before .before .parse-hex-codepoint2 .result)) ((c .before .parse-hex-codepoint3 .result))
+    (uncut ((c .before .before .before .enum-told3 .given .1)) ((c .before .before .before .before .before .find-dots2 .ensures)))
+    ((c .before .before .parse-hex-codepoint2 .ensures)) ((c .before .parse-hex-codepoint3 .ensures)) ((c .range-of2 .ensures))
 
 pub parse-range-spec : {M : Type 1} → statement M
 parse-range-spec =
