@@ -21,11 +21,11 @@ use Rattle.numeral.proofs.Digits.{below, above, within}
 
 -- ---- `0x`
 
-strip-off : (a : ℕ) (s : List ℕ) → eqb a digit0 ≡ false → strip0x (a ∷ s) ≡ a ∷ s
+pub strip-off : (a : ℕ) (s : List ℕ) → eqb a digit0 ≡ false → strip0x (a ∷ s) ≡ a ∷ s
 strip-off a [] e = refl
 strip-off a (b ∷ s) e = rw e
 
-strip-off₂ : (a b : ℕ) (s : List ℕ) → eqb b letterX ≡ false → strip0x (a ∷ b ∷ s) ≡ a ∷ b ∷ s
+pub strip-off₂ : (a b : ℕ) (s : List ℕ) → eqb b letterX ≡ false → strip0x (a ∷ b ∷ s) ≡ a ∷ b ∷ s
 strip-off₂ a b s e = go (eqb a digit0)
   where
     go : (x : Bool) → cond (x && eqb b letterX) (strip0x s) (a ∷ b ∷ s) ≡ a ∷ b ∷ s
