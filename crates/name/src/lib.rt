@@ -153,22 +153,24 @@ pub fn category_id(
     match find_name(names, slots, count, text, start, end) {
         Found::At(i) => Entry::Number(Numbered {
             number: i,
-            count: count,
-            bytes: bytes,
+            count,
+            bytes,
         }),
         Found::Nothing => {
+            let len = end - start;
+            let left = MAX_NAME_BYTES - bytes;
             if MAX_CATEGORIES <= count {
                 return Entry::Full(CATEGORIES_FULL);
             }
-            let len = end - start;
-            if MAX_NAME_BYTES - bytes < len {
+            if left < len {
                 return Entry::Full(NAME_BYTES_FULL);
             }
             copy_in(names, bytes, text, start, end);
             slots[count] = slot_of(bytes, len);
+            let next = count + 1;
             Entry::Number(Numbered {
                 number: count,
-                count: count + 1,
+                count: next,
                 bytes: bytes + len,
             })
         }
@@ -205,7 +207,8 @@ fn names_inside(names: &[u8], categories: &[u8], count: usize) -> bool
         let at = CATEGORY_BYTES * i;
         let start = table::get_u16(categories, at) as usize;
         let len = table::get_u16(categories, at + NAME_LENGTH_AT) as usize;
-        if names.len() < start + len {
+        let end = start + len;
+        if names.len() < end {
             return false;
         }
         i += 1;

@@ -36,8 +36,8 @@ get-u16-requires-2 c κs = omega arith
 cast-len : tie.Need-cast-len Inv-loop μ-loop
 cast-len c = omega arith
 
-add-if1 : tie.Need-add-if1 Inv-loop μ-loop
-add-if1 c = omega arith
+add-end : tie.Need-add-end Inv-loop μ-loop
+add-end c = omega arith
 
 returns : tie.Need-returns Inv-loop μ-loop
 returns c =
@@ -75,7 +75,7 @@ names-inside-spec =
     add-get-u16
     get-u16-requires-2
     cast-len
-    add-if1
+    add-end
     returns
     add-i
     loop-less
