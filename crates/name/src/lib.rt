@@ -1,11 +1,27 @@
-// Category names: one store of bytes, a slot for each name (start * 65536 + length), and interning.
+// Category names. All bytes of names stand in one store, one behind another, and a slot for each name says where: interning while a
+// text is read, and finding a name there and over tables handed in.
+use paper::CATEGORIES_FULL;
+use paper::MAX_CATEGORIES;
+use paper::MAX_NAME_BYTES;
+use paper::NAME_BYTES_FULL;
+use paper::TABLES_APART;
+use table::CATEGORY_BYTES;
+use table::NAME_LENGTH_AT;
 ghost use mathlib.Core.Path.{_≡_};
-ghost use mathlib.Core.Bool.{true, false};
-ghost use Prim.Native.Nat.{ℕ, _+_, _*_, _-_, _/_, _%_, _≤_, _<_};
+ghost use mathlib.Core.Bool.{false, not};
+ghost use mathlib.Core.List.{map};
+ghost use Prim.Native.Nat.{_+_, _*_, _-_, _/_, _%_, _≤_};
 ghost use lib.ListN.{length, take, drop};
-ghost use Rattle.paper.specs.Lists.{same};
+ghost use Rattle.paper.specs.Lists.{any, same};
+ghost use Rattle.paper.specs.Rows.Numbers.{slotWidth, nameSlotsOf, nameIn, pastStore};
+ghost use Rattle.paper.specs.Sizes.{maxNameBytes};
 ghost use Rattle.paper.specs.Tables.Lent.{patch};
-ghost use Rattle.name.specs.Names.{FindsIn, Room, Enters};
+ghost use Rattle.name.specs.Slots.{slotUnit, written};
+ghost use Rattle.name.specs.Names.{Finds, FindsIn, Room, Enters};
+ghost use Rattle.name.specs.Lookup.{FindsCategory};
+
+// While a text is read a slot is one number, start * SLOT_UNIT + length, and 0 where it is unused.
+const SLOT_UNIT: u32 = 65536;
 
 pub enum Found {
     At(usize),
@@ -19,31 +35,43 @@ pub struct Numbered {
     pub bytes: usize,
 }
 
+// The refusal is 12 or 13.
 pub enum Entry {
     Number(Numbered),
     Full(u32),
 }
 
+pub struct Refusal {
+    pub number: u32,
+    pub place: usize,
+}
+
+pub enum CategoryFound {
+    Category(usize),
+    Absent,
+    Refused(Refusal),
+}
+
 fn slot_start(slot: u32) -> usize
-    ensures { λ r. ⌜ r ≡ slot / 65536 ⌝ }
+    ensures { λ r. ⌜ r ≡ slot / slotUnit ⌝ }
 {
-    (slot / 65536) as usize
+    (slot / SLOT_UNIT) as usize
 }
 
 fn slot_len(slot: u32) -> usize
-    ensures { λ r. ⌜ r ≡ slot % 65536 ⌝ }
+    ensures { λ r. ⌜ r ≡ slot % slotUnit ⌝ }
 {
-    (slot % 65536) as usize
+    (slot % SLOT_UNIT) as usize
 }
 
 fn slot_of(start: usize, len: usize) -> u32
-    requires { ⌜ (start ≤ 16384) × (len ≤ 16384) ⌝ }
-    ensures { λ r. ⌜ r ≡ start * 65536 + len ⌝ }
+    requires { ⌜ (start ≤ maxNameBytes) × (len ≤ maxNameBytes) ⌝ }
+    ensures { λ r. ⌜ r ≡ start * slotUnit + len ⌝ }
 {
-    (start * 65536 + len) as u32
+    (start * (SLOT_UNIT as usize) + len) as u32
 }
 
-// The bytes of the text from `start` to `end` stand in the store at `at`.
+// The bytes of the text from `start` to `end` stand in the store at `at`; compared up to the first that differs.
 fn holds_at(names: &[u8], at: usize, text: &[u8], start: usize, end: usize) -> bool
     requires { ⌜ (start ≤ end) × (end ≤ length (now text)) ⌝ }
     ensures { λ r. ⌜ r ≡ same (drop start (take end (now (text .entry)))) (take (end - start) (drop at (now (names .entry)))) ⌝ }
@@ -68,8 +96,15 @@ fn holds_at(names: &[u8], at: usize, text: &[u8], start: usize, end: usize) -> b
     true
 }
 
-// The lowest number whose name is the text from `start` to `end`.
-pub fn find_name(names: &[u8], slots: &[u32], count: usize, text: &[u8], start: usize, end: usize) -> Found
+// The lowest number whose name is the text from `start` to `end`. Lengths first: most slots cost one comparison.
+fn find_name(
+    names: &[u8],
+    slots: &[u32],
+    count: usize,
+    text: &[u8],
+    start: usize,
+    end: usize,
+) -> Found
     requires { ⌜ (count ≤ length (now slots)) × ((start ≤ end) × (end ≤ length (now text))) ⌝ }
     ensures { λ r. ⌜ FindsIn (now (names .entry)) (now (slots .entry)) count (drop start (take end (now (text .entry)))) r ⌝ }
 {
@@ -102,24 +137,40 @@ fn copy_in(names: &mut [u8], at: usize, text: &[u8], start: usize, end: usize)
     }
 }
 
-// The number of a name, which is entered where it is new. 12: there are 512 names; 13: its bytes have no room.
-pub fn category_id(names: &mut [u8], slots: &mut [u32], count: usize, bytes: usize, text: &[u8], start: usize, end: usize) -> Entry
+// The number of the name that stands in the text from `start` to `end`; a new name is entered behind the others. 12 before 13.
+pub fn category_id(
+    names: &mut [u8],
+    slots: &mut [u32],
+    count: usize,
+    bytes: usize,
+    text: &[u8],
+    start: usize,
+    end: usize,
+) -> Entry
     requires { ⌜ Room (now names) (now slots) (now text) count bytes start end ⌝ }
     ensures { λ r. ⌜ Enters (now (names .entry)) (now (slots .entry)) count bytes (drop start (take end (now (text .entry)))) (now (names .exit)) (now (slots .exit)) r ⌝ }
 {
     match find_name(names, slots, count, text, start, end) {
-        Found::At(i) => Entry::Number(Numbered { number: i, count: count, bytes: bytes }),
+        Found::At(i) => Entry::Number(Numbered {
+            number: i,
+            count: count,
+            bytes: bytes,
+        }),
         Found::Nothing => {
-            if 512 <= count {
-                return Entry::Full(12);
+            if MAX_CATEGORIES <= count {
+                return Entry::Full(CATEGORIES_FULL);
             }
             let len = end - start;
-            if 16384 - bytes < len {
-                return Entry::Full(13);
+            if MAX_NAME_BYTES - bytes < len {
+                return Entry::Full(NAME_BYTES_FULL);
             }
             copy_in(names, bytes, text, start, end);
             slots[count] = slot_of(bytes, len);
-            Entry::Number(Numbered { number: count, count: count + 1, bytes: bytes + len })
+            Entry::Number(Numbered {
+                number: count,
+                count: count + 1,
+                bytes: bytes + len,
+            })
         }
     }
 }
