@@ -1,0 +1,9 @@
+pub mod Widths
+pub mod Spread
+pub mod Bridge
+pub mod LineBridge
+pub mod Scan
+pub mod Runs
+pub mod Steps
+pub mod Lines
+pub mod Reading

@@ -1,0 +1,206 @@
+-- Words and bodies at places of a text, whose ends may lie past it; and the pieces between `..`.
+-- Assumes nothing.
+use Rattle.line.proofs.LineBridge.{parts-off, parts-off₂}
+use Rattle.text.specs.Answers.{whiteWidth}
+use Rattle.line.specs.Marks.{Mark, marks, gapWidth, wordsBytes, bodyBytes}
+use Prim.Native.Nat.{ℕ, zero, suc, _+_, _-_, _≤_, _<_}
+use native.Mathlib.Omega.{arith}
+use mathlib.Core.Path.{_≡_, refl, sym, ap, ap₂, _∙_, subst}
+use mathlib.Core.Bool.{Bool, true, false, not, cond, _&&_, _||_}
+use mathlib.Core.List.{List, [], _∷_, _++_, map, append-assoc}
+use lib.Dec.{T, leb, ltb, eqb}
+use lib.ListN.{length, take, drop, getD, length-take, length-drop}
+use lib.Seq.{take-take, length-take-le, take-suc, drop-append-le}
+use native.Mathlib.Numerals.{add-one}
+use native.Mathlib.Decide.{decLe}
+use borrow.Author.Tests.{eq-eqb, ne-eqb}
+use Rattle.paper.specs.Lists.{push, words}
+use Rattle.paper.specs.CharDef.Line.{begins0x}
+use Rattle.paper.specs.Computed.ReadText.{parts}
+use Rattle.paper.proofs.Lists.Facts.{pushAll, pushAll-first}
+use Rattle.paper.proofs.Lists.Parts.{nothing, uncons, part-length, take-part, clamp}
+use Rattle.line.specs.declared.Part.{Part}
+use Rattle.line.specs.Answer.{gapRun, wordRun, solid, word-and, bytesOf, NextWord, Body, Least, Cut}
+use Rattle.line.proofs.Scan.{skip-end, word-stop-end}
+use Rattle.line.proofs.Runs.{from-le, to-le, word-law, body-law, body-within, words-none, body-none}
+
+module _ (l : List ℕ) (end stop : ℕ) (m : Least end (length l) stop) where
+  same : take stop l ≡ take end l
+  same = clamp l end stop (m .one) (m .other) (m .first)
+
+  long : length (take stop l) ≡ stop
+  long = length-take-le stop l (m .second)
+
+  module _ (start : ℕ) (white : Bool) (h : stop < start) where
+    none : drop start (take end l) ≡ []
+    none = ap (drop start) (sym same) ∙ nothing l start stop (omega arith)
+
+    here : drop start (take start l) ≡ []
+    here = nothing l start start (omega arith)
+
+    zero-gap : length (gapRun white (drop start (take end l))) ≡ 0
+    zero-gap = ap (λ t. length (gapRun white (drop start t))) (sym same) ∙ skip-end l start stop white (omega arith)
+
+    zero-word : length (wordRun white (drop start (take end l))) ≡ 0
+    zero-word = ap (λ t. length (wordRun white (drop start t))) (sym same) ∙ word-stop-end l start stop white (omega arith)
+
+    within : start ≤ end → start ≤ end
+    within k = k
+
+    pub no-next : NextWord l start end white (record { start = start; end = start })
+    no-next = record {
+      from = omega arith;
+      order = omega arith;
+      within = within;
+      inside = λ k. omega arith;
+      place = omega (arith, zero-gap);
+      size = omega (arith, zero-word);
+      words = ap (wordsBytes (gapWidth white)) none ∙ words-none (gapWidth white) ∙ ap (λ w. word-and w (wordsBytes (gapWidth white) (drop start (take end l)))) (sym here);
+    }
+
+    zero-solid : length (solid (drop start (take end l))) ≡ 0
+    zero-solid = ap (λ t. length (solid t)) none ∙ ap length solid-none
+      where
+        solid-none : solid [] ≡ []
+        solid-none = body-none .0
+
+    pub no-body : white ≡ true → Body l start end (record { start = start; end = start })
+    no-body w = record {
+      from = omega arith;
+      order = omega arith;
+      within = within;
+      inside = λ k. omega arith;
+      place = omega (arith, ap (λ b. length (gapRun b (drop start (take end l)))) (sym w) ∙ zero-gap);
+      size = omega (arith, zero-solid);
+      bytes = here ∙ sym (ap bodyBytes none ∙ body-none .1);
+    }
+
+  module _ (start from to : ℕ) (white : Bool) (h : start ≤ stop) (e : from ≡ start + length (gapRun white (drop start (take stop l)))) where
+    pub from-in : from ≤ stop
+    unfolding gapRun
+    from-in = let k : start ≤ length (take stop l) = omega (arith, long) in omega (arith, long, from-le (gapWidth white) (take stop l) start from to e k)
+
+    pub next-is : to ≡ from + length (wordRun white (drop from (take stop l))) → NextWord l start end white (record { start = from; end = to })
+    unfolding gapRun wordRun
+    next-is d =
+        let a : from ≤ stop = from-in in
+        let k : from ≤ length (take stop l) = omega (arith, long) in
+        let b : to ≤ stop = omega (arith, long, to-le (gapWidth white) (take stop l) start from to e d k) in
+        record {
+          from = omega arith;
+          order = omega arith;
+          within = λ q. omega (arith, m .first);
+          inside = λ q. omega (arith, m .second);
+          place = e ∙ ap (λ t. start + length (gapRun white (drop start t))) same;
+          size = d ∙ ap (λ t. from + length (wordRun white (drop from t))) same;
+          words =
+              ap (λ t. wordsBytes (gapWidth white) (drop start t)) (sym same)
+              ∙ word-law (gapWidth white) (take stop l) start from to e d
+              ∙ ap₂ (λ x y. word-and (drop from x) (wordsBytes (gapWidth white) (drop to y))) (take-take to stop l b) same;
+        }
+
+    pub body-is : white ≡ true → to ≡ from + length (solid (drop from (take stop l))) → Body l start end (record { start = from; end = to })
+    body-is w d =
+        let a : from ≤ stop = from-in in
+        let k : from ≤ length (take stop l) = omega (arith, long) in
+        let f : from ≡ start + length (gapRun true (drop start (take stop l))) = e ∙ ap (λ b. start + length (gapRun b (drop start (take stop l)))) w in
+        let b : to ≤ stop = omega (arith, long, body-within (take stop l) start from to f d k) in
+        record {
+          from = omega arith;
+          order = omega arith;
+          within = λ q. omega (arith, m .first);
+          inside = λ q. omega (arith, m .second);
+          place = f ∙ ap (λ t. start + length (gapRun true (drop start t))) same;
+          size = d ∙ ap (λ t. from + length (solid (drop from t))) same;
+          bytes =
+              ap (drop from) (sym (take-take to stop l b))
+              ∙ body-law (take stop l) start from to f d
+              ∙ ap (λ t. bodyBytes (drop start t)) same;
+        }
+
+-- ---- two bytes in front
+
+module _ (l : List ℕ) (at end : ℕ) where
+  one : at < end → end - at < 2 → end ≤ length l → drop at (take end l) ≡ getD l at 0 ∷ []
+  one h m k = uncons l at end h k ∙ ap (λ s. getD l at 0 ∷ s) (nothing l (at + 1) end (omega arith))
+
+  two : at + 1 < end → end ≤ length l → drop at (take end l) ≡ getD l at 0 ∷ getD l (at + 1) 0 ∷ drop (at + 2) (take end l)
+  two h k =
+      let e : at + 1 + 1 ≡ at + 2 = omega arith in
+      uncons l at end (omega arith) k ∙ ap (λ s. getD l at 0 ∷ s) (uncons l (at + 1) end h k ∙ ap (λ n. getD l (at + 1) 0 ∷ drop n (take end l)) e)
+
+  pub begins-short : end - at < 2 → end ≤ length l → false ≡ begins0x (drop at (take end l))
+  begins-short m k = elim (decLe end at) [
+    | yes h ↦ ap begins0x (sym (nothing l at end h))
+    | no h ↦ ap begins0x (sym (one (omega arith) m k))
+  ]
+
+  module _ (h : at + 1 < end) (k : end ≤ length l) where
+    pub begins-no : (getD l at 0 ≡ 48 → ⊥) → false ≡ begins0x (drop at (take end l))
+    begins-no n = sym (ap begins0x (two h k) ∙ ap (λ x. x && eqb (getD l (at + 1) 0) 120) (ne-eqb (getD l at 0) 48 n))
+
+    pub begins-no₂ : getD l at 0 ≡ 48 → (getD l (at + 1) 0 ≡ 120 → ⊥) → false ≡ begins0x (drop at (take end l))
+    begins-no₂ e n = sym (ap begins0x (two h k) ∙ ap₂ _&&_ (eq-eqb (getD l at 0) 48 e) (ne-eqb (getD l (at + 1) 0) 120 n))
+
+    pub begins-yes : getD l at 0 ≡ 48 → getD l (at + 1) 0 ≡ 120 → true ≡ begins0x (drop at (take end l))
+    begins-yes e f = sym (ap begins0x (two h k) ∙ ap₂ _&&_ (eq-eqb (getD l at 0) 48 e) (eq-eqb (getD l (at + 1) 0) 120 f))
+
+add-two : (n : ℕ) → n + 1 + 1 ≡ n + 2
+add-two n = omega arith
+
+-- ---- the pieces between `..`
+
+pushAll-more : (s : List ℕ) (x : ℕ) (q : List (List ℕ)) → pushAll (s ++ (x ∷ [])) q ≡ pushAll s (push x q)
+pushAll-more [] x q = refl
+pushAll-more (y ∷ s) x q = ap (push y) (pushAll-more s x q)
+
+module _ (l : List ℕ) (start at : ℕ) (h : start ≤ at) (k : at < length l) where
+  part-more : drop start (take (at + 1) l) ≡ drop start (take at l) ++ (getD l at 0 ∷ [])
+  part-more =
+      let n : start ≤ length (take at l) = omega (arith, length-take-le at l (omega arith)) in
+      ap (λ m. drop start (take m l)) (add-one at) ∙ ap (drop start) (take-suc l at 0 k) ∙ drop-append-le start (take at l) (getD l at 0 ∷ []) n
+
+  more : (q : List (List ℕ)) → pushAll (drop start (take at l)) (push (getD l at 0) q) ≡ pushAll (drop start (take (at + 1) l)) q
+  more q = sym (ap (λ s. pushAll s q) part-more ∙ pushAll-more (drop start (take at l)) (getD l at 0) q)
+
+-- where the scan stands: what it passed, in front of the pieces of what is left
+abbrev pub Passed : List ℕ → ℕ → ℕ → ℕ → Type 0
+Passed l start end at = parts (drop start (take end l)) ≡ pushAll (drop start (take at l)) (parts (drop at (take end l)))
+
+module _ (l : List ℕ) (start end : ℕ) (m : end ≤ length l) where
+  pub passed-none : Passed l start end start
+  passed-none = sym (ap (λ s. pushAll s (parts (drop start (take end l)))) (nothing l start start (omega arith)))
+
+  pub passed-all : (at : ℕ) → at ≡ end → Passed l start end at → parts (drop start (take end l)) ≡ drop start (take end l) ∷ []
+  passed-all at e p =
+      p ∙ ap (λ s. pushAll (drop start (take at l)) (parts s)) (nothing l at end (omega arith)) ∙ pushAll-first (λ x. true) (drop start (take at l)) []
+      ∙ ap (λ n. drop start (take n l) ∷ []) e
+
+  module _ (at : ℕ) (h : start ≤ at) (p : Passed l start end at) where
+    step : at < end → parts (drop at (take end l)) ≡ push (getD l at 0) (parts (drop (at + 1) (take end l))) → Passed l start end (at + 1)
+    step k e = p ∙ ap (pushAll (drop start (take at l))) e ∙ more l start at h (omega arith) (parts (drop (at + 1) (take end l)))
+
+    pub passed-last : at < end → end - at < 2 → parts (drop start (take end l)) ≡ drop start (take end l) ∷ []
+    passed-last k n =
+        let e : at + 1 ≡ end = omega arith in
+        passed-all (at + 1) e
+        (step k (ap parts (one l at end k n m) ∙ ap (λ s. push (getD l at 0) (parts s)) (sym (nothing l (at + 1) end (omega arith)))))
+
+    pub passed-other : at < end → (getD l at 0 ≡ 46 → ⊥) → Passed l start end (at + 1)
+    passed-other k n =
+        step k (ap parts (uncons l at end k m) ∙ parts-off (getD l at 0) (drop (at + 1) (take end l)) (ne-eqb (getD l at 0) 46 n))
+
+    pub passed-dot : at + 1 < end → (getD l (at + 1) 0 ≡ 46 → ⊥) → Passed l start end (at + 1)
+    passed-dot k n =
+        step (omega arith)
+        (ap parts (two l at end k m) ∙ parts-off₂ (getD l at 0) (getD l (at + 1) 0) (drop (at + 2) (take end l)) (ne-eqb (getD l (at + 1) 0) 46 n)
+        ∙ ap (λ s. push (getD l at 0) (parts s)) (sym (uncons l (at + 1) end k m ∙ ap (λ i. getD l (at + 1) 0 ∷ drop i (take end l)) (add-two at))))
+
+    pub passed-found : at + 1 < end → getD l at 0 ≡ 46 → getD l (at + 1) 0 ≡ 46 → Cut l start end at
+    passed-found k e f = record {
+      from = h;
+      within = omega arith;
+      pieces =
+          p ∙ ap (λ s. pushAll (drop start (take at l)) (parts s)) (two l at end k m) ∙ ap (pushAll (drop start (take at l))) (rw (e, f))
+          ∙ pushAll-first (λ x. true) (drop start (take at l)) (parts (drop (at + 2) (take end l)));
+    }

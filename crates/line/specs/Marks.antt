@@ -1,0 +1,84 @@
+-- A line's bytes, said without decoding: each byte is marked by whether it belongs to a gap between words,
+-- and what the paper says of characters is said of marked bytes. `Bridge` shows that on UTF-8 both say the same.
+-- Assumes nothing.
+use Prim.Native.Nat.{ℕ, zero, suc, _-_}
+use mathlib.Core.Bool.{Bool, true, false, not, cond, _&&_}
+use mathlib.Core.List.{List, [], _∷_, map}
+use lib.Dec.{ltb, eqb}
+use lib.ListN.{getD}
+use Rattle.text.specs.Answers.{whiteWidth}
+use Rattle.paper.specs.Lists.{words, until, trimStart, trimEnd}
+use Rattle.paper.specs.Text.Scalar.{isWhite, isSep, utf8}
+use Rattle.paper.specs.CharDef.Line.{Line, blank, category, range, begins0x}
+use Rattle.paper.specs.Computed.ReadText.{Found, found, wrong, rangeOf, categoryOf}
+
+-- ---- how wide a gap's first character is, from the first bytes
+
+-- TAB, FF, CR or space in front: 1; else 0
+unfoldable pub sepWidth : List ℕ → ℕ
+unfolding isSep
+sepWidth s = cond (isSep (getD s 0 255)) 1 0
+
+-- the gaps of a range line, and those of a category line
+unfoldable pub gapWidth : Bool → List ℕ → ℕ
+unfolding whiteWidth sepWidth
+gapWidth true s = whiteWidth s
+gapWidth false s = sepWidth s
+
+-- a byte below 80 that is a gap by itself
+abbrev pub gapByte : Bool → ℕ → Bool
+gapByte true b = isWhite b
+gapByte false b = isSep b
+
+-- ---- marked bytes
+
+-- a byte, and whether it belongs to a gap
+abbrev pub Mark : Type 0
+Mark = ℕ × Bool
+
+abbrev pub byte : Mark → ℕ
+byte m = m .0
+
+abbrev pub inGap : Mark → Bool
+inGap m = m .1
+
+abbrev pub hashMark : Mark → Bool
+hashMark m = eqb (m .0) 35 && not (m .1)
+
+-- from a byte of which `skip` and those after belong to the gap before
+unfoldable pub marksFrom : (List ℕ → ℕ) → ℕ → List ℕ → List Mark
+marksFrom g skip [] = []
+marksFrom g zero (b ∷ s) = (b, ltb 0 (g (b ∷ s))) ∷ marksFrom g (g (b ∷ s) - 1) s
+marksFrom g (suc skip) (b ∷ s) = (b, true) ∷ marksFrom g skip s
+
+unfoldable pub marks : (List ℕ → ℕ) → List ℕ → List Mark
+unfolding marksFrom
+marks g s = marksFrom g 0 s
+
+-- the words between the gaps
+unfoldable pub wordsBytes : (List ℕ → ℕ) → List ℕ → List (List ℕ)
+unfolding marks
+wordsBytes g s = map (map byte) (words inGap (marks g s))
+
+-- before the first `#`, trimmed
+unfoldable pub bodyBytes : List ℕ → List ℕ
+unfolding marks whiteWidth
+bodyBytes s = map byte (trimEnd inGap (until hashMark (trimStart inGap (marks whiteWidth s))))
+
+unfoldable pub bodyLineBytes : List ℕ → Found
+unfolding rangeOf categoryOf wordsBytes gapWidth
+bodyLineBytes [] = found blank
+bodyLineBytes (c ∷ cs) =
+    cond (begins0x (c ∷ cs)) (rangeOf (wordsBytes (gapWidth true) (c ∷ cs))) (categoryOf (wordsBytes (gapWidth false) (c ∷ cs)))
+
+-- what a line's bytes say; names are bytes
+unfoldable pub lineBytes : List ℕ → Found
+unfolding bodyBytes bodyLineBytes
+lineBytes s = bodyLineBytes (bodyBytes s)
+
+-- a line whose names are bytes, of one whose names are characters
+abbrev pub inBytes : Found → Found
+inBytes (wrong n) = wrong n
+inBytes (found blank) = found blank
+inBytes (found (category name invoke group len)) = found (category (utf8 name) invoke group len)
+inBytes (found (range lower upper names)) = found (range lower upper (map utf8 names))
