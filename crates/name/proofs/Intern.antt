@@ -1,11 +1,11 @@
 -- Interning: a name that is there keeps its number; a new one is refused by 12 or 13, or stands behind the others in the store and in the slots.
 -- Assumes nothing.
-use Prim.Native.Nat.{ℕ, zero, suc, _+_, _*_, _≤_, _<_}
+use Prim.Native.Nat.{ℕ, zero, suc, _+_, _*_, _-_, _≤_, _<_}
 use native.Mathlib.Omega.{arith}
 use mathlib.Core.Path.{_≡_, refl, sym, ap, ap₂, _∙_}
 use mathlib.Core.Bool.{Bool, true, false, cond, _||_}
 use mathlib.Core.List.{List, [], _∷_, _++_, map, append-assoc, append-nil}
-use lib.ListN.{length, set, length-append}
+use lib.ListN.{length, set, replicate, length-append}
 use borrow.Author.Tests.{le-leb, lt-leb, lt-ltb, le-ltb}
 use Rattle.paper.specs.Sizes.{maxCategories, maxNameBytes}
 use Rattle.paper.specs.Refusals.{categoriesFull, nameBytesFull}
@@ -62,6 +62,25 @@ place-more n (x ∷ names) h = go (same n x) h (place-more n names)
         → suc (length names) ≡ cond b zero (suc (positionOf same n (names ++ (n ∷ []))))
     go true e ih = absurd (let z : _≡_ {A = ℕ} 0 1 = cc in omega arith)
     go false e ih = ap suc (ih e)
+
+-- ---- no name yet
+
+padded-none : (size : ℕ) → replicate size 0 ≡ padded size []
+unfolding padded
+padded-none size = let e : size ≡ size - 0 = omega arith in ap (λ k. replicate k 0) e
+
+-- zero bytes and zero slots hold no name: where a reader starts
+pub none-laid : (store slots : List ℕ) → store ≡ replicate maxNameBytes 0 → slots ≡ replicate maxCategories 0 → Laid [] store slots 0 0
+unfolding nameBytes nameSlots
+none-laid store slots p q =
+    record {
+      count-is = refl;
+      bytes-is = refl;
+      few = omega arith;
+      short = omega arith;
+      stored = p ∙ padded-none maxNameBytes;
+      slotted = q ∙ padded-none maxCategories;
+    }
 
 -- ---- the store and the slots with one name more
 

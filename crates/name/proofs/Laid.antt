@@ -4,7 +4,7 @@ use Prim.Native.Nat.{ℕ, zero, suc, _+_, _*_, _/_, _%_, _≤_, _<_}
 use native.Mathlib.Numerals.{add-one}
 use native.Mathlib.Omega.{arith}
 use mathlib.Core.Path.{_≡_, refl, sym, ap, ap₂, _∙_}
-use mathlib.Core.Bool.{true, false}
+use mathlib.Core.Bool.{Bool, true, false}
 use mathlib.Core.List.{List, [], _∷_, _++_, map, append-assoc}
 use lib.ListN.{length, take, drop, getD, length-append, length-map, drop-of-length-le, List·getD-append}
 use lib.Seq.{take-at, drop-at, drop-cons}
@@ -96,8 +96,9 @@ module _ {store slots : List ℕ} {count : ℕ} {n : List ℕ} {i : ℕ} (l : Lo
       is-name : (names : List (List ℕ)) (bytes : ℕ) → Laid names store slots count bytes → same n (take len (drop at store)) ≡ same n (getD names i [])
       is-name names bytes z = ap₂ (λ k m. same n (take k (drop m store))) b a ∙ ap (same n) (slot-says z i lt .is)
 
-      pub look-hit : true ≡ same n (take len (drop at store)) → FindsIn store slots count n (At i)
-      look-hit h names bytes z = search-hit (l .seen names bytes z) _ _ (next names bytes z) (h ∙ is-name names bytes z)
+      module _ (r : Bool) (e : r ≡ same n (take len (drop at store))) where
+        pub look-hit : r ≡ true → FindsIn store slots count n (At i)
+        look-hit h names bytes z = search-hit (l .seen names bytes z) _ _ (next names bytes z) (sym h ∙ e ∙ is-name names bytes z)
 
-      pub look-on : false ≡ same n (take len (drop at store)) → Looking store slots count n (i + 1)
-      look-on h = passed (λ names bytes z. h ∙ is-name names bytes z)
+        pub look-on : r ≡ false → Looking store slots count n (i + 1)
+        look-on h = passed (λ names bytes z. sym h ∙ e ∙ is-name names bytes z)

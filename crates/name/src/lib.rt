@@ -153,24 +153,110 @@ pub fn category_id(
     match find_name(names, slots, count, text, start, end) {
         Found::At(i) => Entry::Number(Numbered {
             number: i,
-            count: count,
-            bytes: bytes,
+            count,
+            bytes,
         }),
         Found::Nothing => {
+            let len = end - start;
+            let left = MAX_NAME_BYTES - bytes;
             if MAX_CATEGORIES <= count {
                 return Entry::Full(CATEGORIES_FULL);
             }
-            let len = end - start;
-            if MAX_NAME_BYTES - bytes < len {
+            if left < len {
                 return Entry::Full(NAME_BYTES_FULL);
             }
             copy_in(names, bytes, text, start, end);
             slots[count] = slot_of(bytes, len);
+            let next = count + 1;
             Entry::Number(Numbered {
                 number: count,
-                count: count + 1,
+                count: next,
                 bytes: bytes + len,
             })
         }
+    }
+}
+
+// Writes all slots out as the category table, unused ones as zero: where the reader accepts, its table is whole.
+pub fn write_slots(slots: &[u32], categories: &mut [u8])
+    ensures { λ _. ⌜ now (categories .exit) ≡ written (now (slots .entry)) (now (categories .entry)) ⌝ }
+{
+    if slots.len() < MAX_CATEGORIES {
+        return;
+    }
+    if categories.len() < CATEGORY_BYTES * MAX_CATEGORIES {
+        return;
+    }
+    let mut i = 0;
+    while i < MAX_CATEGORIES {
+        let slot = slots[i];
+        let at = CATEGORY_BYTES * i;
+        table::put_u16(categories, at, slot_start(slot) as u16);
+        table::put_u16(categories, at + NAME_LENGTH_AT, slot_len(slot) as u16);
+        i += 1;
+    }
+}
+
+// No category's name runs past the store.
+fn names_inside(names: &[u8], categories: &[u8], count: usize) -> bool
+    requires { ⌜ slotWidth * count ≤ length (now categories) ⌝ }
+    ensures { λ r. ⌜ r ≡ not (any (pastStore (now (names .entry))) (nameSlotsOf (now (categories .entry)) count)) ⌝ }
+{
+    let mut i = 0;
+    while i < count {
+        let at = CATEGORY_BYTES * i;
+        let start = table::get_u16(categories, at) as usize;
+        let len = table::get_u16(categories, at + NAME_LENGTH_AT) as usize;
+        let end = start + len;
+        if names.len() < end {
+            return false;
+        }
+        i += 1;
+    }
+    true
+}
+
+// The lowest number with that name, where no category's name runs past the store.
+fn find_placed(names: &[u8], categories: &[u8], count: usize, name: &[u8]) -> Found
+    requires { ⌜ slotWidth * count ≤ length (now categories) ⌝ }
+    requires { ⌜ any (pastStore (now names)) (nameSlotsOf (now categories) count) ≡ false ⌝ }
+    ensures { λ r. ⌜ Finds (map (nameIn (now (names .entry))) (nameSlotsOf (now (categories .entry)) count)) (now (name .entry)) r ⌝ }
+{
+    let len = name.len();
+    let mut i = 0;
+    while i < count {
+        let at = CATEGORY_BYTES * i;
+        if table::get_u16(categories, at + NAME_LENGTH_AT) as usize == len {
+            if holds_at(names, table::get_u16(categories, at) as usize, name, 0, len) {
+                return Found::At(i);
+            }
+            i += 1;
+        } else {
+            i += 1;
+        }
+    }
+    Found::Nothing
+}
+
+// Finding a name over any tables: 26 where the category table is shorter than its count or some category's name runs past the
+// store; otherwise the lowest number with that name, or that there is none.
+pub fn find_category(names: &[u8], categories: &[u8], count: usize, name: &[u8]) -> CategoryFound
+    ensures { λ r. ⌜ FindsCategory (now (names .entry)) (now (categories .entry)) count (now (name .entry)) r ⌝ }
+{
+    if categories.len() / CATEGORY_BYTES < count {
+        return CategoryFound::Refused(Refusal {
+            number: TABLES_APART,
+            place: 0,
+        });
+    }
+    if !names_inside(names, categories, count) {
+        return CategoryFound::Refused(Refusal {
+            number: TABLES_APART,
+            place: 0,
+        });
+    }
+    match find_placed(names, categories, count, name) {
+        Found::At(i) => CategoryFound::Category(i),
+        Found::Nothing => CategoryFound::Absent,
     }
 }
