@@ -6,3 +6,5 @@ pub mod Sizes
 pub mod Scan
 pub mod Walking
 pub mod Text
+pub mod Filled
+pub mod Whole

@@ -1,9 +1,10 @@
 -- The loop over lines, in the paper's terms: lines as bytes, and memory that holds nothing. Assumes nothing.
-use Prim.Native.Nat.{ℕ, zero, suc, _+_, _-_, _≤_}
+use Prim.Native.Nat.{ℕ, zero, suc, _+_, _*_, _-_, _≤_}
 use native.Mathlib.Omega.{arith}
 use mathlib.Core.Path.{_≡_, refl, sym, ap, _∙_, subst}
 use mathlib.Core.List.{List, [], _∷_, map}
 use lib.ListN.{length, replicate}
+use Rattle.paper.specs.Sizes.{maxCategories, maxNameBytes, maxCategoryLines, maxRanges, maxReferences}
 use Rattle.paper.specs.Text.Scalar.{utf8}
 use Rattle.paper.specs.CharDef.Reading.{Reading, nameBytes, references}
 use Rattle.paper.specs.CharDef.Reading.{Answer, accepted, refused}
@@ -33,20 +34,21 @@ unfolding padded
 none-padded n = let e : n ≡ n - 0 = omega arith in ap (λ (k : ℕ). replicate {A = ℕ} k 0) e
 
 -- zero memory of the sizes holds nothing
-pub held-nothing : (a b c d e : List ℕ) → a ≡ replicate 16384 0 → b ≡ replicate 512 0 → c ≡ replicate 3072 0 → d ≡ replicate 16384 0 → e ≡ replicate 16384 0
+pub held-nothing : (a b c d e : List ℕ) → a ≡ padded maxNameBytes [] → b ≡ replicate maxCategories 0 → c ≡ padded (6 * maxCategoryLines) []
+    → d ≡ padded (8 * maxRanges) [] → e ≡ padded (2 * maxReferences) []
     → Held nothingRead (record { store = a; slots = b; definitions = c; ranges = d; references = e })
     (record { categories = 0; definitions = 0; ranges = 0; references = 0; bytes = 0 })
 unfolding nothingRead nameBytes references nameSlots rangeSlots
 held-nothing a b c d e p q r s t =
     record {
-      names = record { count-is = refl; bytes-is = refl; few = omega arith; short = omega arith; stored = p ∙ none-padded 16384; slotted = q ∙ none-padded 512 };
+      names = record { count-is = refl; bytes-is = refl; few = omega arith; short = omega arith; stored = p; slotted = q ∙ none-padded maxCategories };
       definitions-few = omega arith;
       definitions-are = refl;
-      in-definitions = r ∙ none-padded 3072;
+      in-definitions = r;
       ranges-few = omega arith;
       ranges-are = refl;
-      in-ranges = s ∙ none-padded 16384;
+      in-ranges = s;
       references-few = omega arith;
       references-are = refl;
-      in-references = t ∙ none-padded 16384;
+      in-references = t;
     }

@@ -64,6 +64,11 @@ pub record LinesAccepted (a : Answer) (after : Tables) (n : Counts) : Type 0 whe
   pub counts : n ≡ countsOf reading
   pub tables : after ≡ inRoom (layout reading)
 
+-- the tables are those of the reading; nothing is said of them where the walk stopped
+abbrev pub TablesFilled : Answer → Tables → Walk → Type 0
+TablesFilled a after (Ended c) = LinesAccepted a after c
+TablesFilled a after (Stopped x) = a ≡ refused (x .number) (x .place)
+
 pub record LinesRefused (a : Answer) (after : Tables) (number place : ℕ) : Type 0 where
   pub is : a ≡ refused number place
   pub tables : after ≡ inRoom noTables

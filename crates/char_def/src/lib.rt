@@ -30,6 +30,7 @@ ghost use mathlib.Core.Path.{_≡_};
 ghost use mathlib.Core.List.{List, [], _∷_, _++_};
 ghost use Prim.Native.Nat.{ℕ, _+_, _*_, _-_, _/_, _%_, _≤_, _<_};
 ghost use lib.ListN.{length, take, drop, replicate};
+ghost use Rattle.paper.specs.Sizes.{maxTextBytes};
 ghost use Rattle.paper.specs.Lists.{until};
 ghost use Rattle.paper.specs.CharDef.Line.{category, range};
 ghost use Rattle.paper.specs.CharDef.Reading.{isLF};
@@ -40,7 +41,7 @@ ghost use Rattle.paper.specs.Tables.Lent.{patch};
 ghost use Rattle.line.specs.Marks.{lineBytes};
 ghost use Rattle.line.specs.Answer.{Inside};
 ghost use Rattle.char_def.specs.Steps.{long, wordsOf, Ready, EntersAll, Working, Stepped, enterBytes, enterFoundBytes, Held};
-ghost use Rattle.char_def.specs.Lines.{readAll, Walked, Sized, noTables, LinesRead};
+ghost use Rattle.char_def.specs.Lines.{readAll, Walked, Sized, noTables, TablesFilled, LinesRead};
 ghost use Rattle.char_def.specs.Parse.{roomFor, Parsed};
 
 const LF: u8 = b'\n';
@@ -356,7 +357,7 @@ fn walk_lines(
     ranges: &mut [u8],
     references: &mut [u8],
 ) -> Walk
-    requires { ⌜ length (now text) ≤ 65536 ⌝ }
+    requires { ⌜ length (now text) ≤ maxTextBytes ⌝ }
     requires { ⌜ Held nothingRead (record { store = now names; slots = now slots; definitions = now definitions; ranges = now ranges; references = now references }) (record { categories = 0; definitions = 0; ranges = 0; references = 0; bytes = 0 }) ⌝ }
     ensures { λ r. ⌜ Walked (readAll (now (text .entry))) (record { store = now (names .exit); slots = now (slots .exit); definitions = now (definitions .exit); ranges = now (ranges .exit); references = now (references .exit) }) r ⌝ }
 {
@@ -442,4 +443,51 @@ fn zero_all(
     table::zero(definitions, DEFINITIONS_SIZE);
     table::zero(ranges, RANGES_SIZE);
     table::zero(references, REFERENCES_SIZE);
+}
+
+// The lines walked over tables of the sizes that hold zero. The category table starts as an array of zero slots, filled by interning, and is
+// written out at the end.
+fn fill_tables(
+    text: &[u8],
+    names: &mut [u8],
+    categories: &mut [u8],
+    definitions: &mut [u8],
+    ranges: &mut [u8],
+    references: &mut [u8],
+) -> Walk
+    requires { ⌜ length (now text) ≤ maxTextBytes ⌝ }
+    requires { ⌜ record { names = now names; categories = now categories; definitions = now definitions; ranges = now ranges; references = now references } ≡ inRoom noTables ⌝ }
+    ensures { λ r. ⌜ TablesFilled (readAll (now (text .entry))) (record { names = now (names .exit); categories = now (categories .exit); definitions = now (definitions .exit); ranges = now (ranges .exit); references = now (references .exit) }) r ⌝ }
+{
+    let mut slots = [0u32; MAX_CATEGORIES];
+    match walk_lines(text, names, &mut slots, definitions, ranges, references) {
+        Walk::Stopped(refusal) => Walk::Stopped(refusal),
+        Walk::Ended(counts) => {
+            name::write_slots(&slots, categories);
+            Walk::Ended(counts)
+        }
+    }
+}
+
+// The lines read into tables of the sizes: the reading's tables, or zero where a line is refused.
+fn read_lines(
+    text: &[u8],
+    names: &mut [u8],
+    categories: &mut [u8],
+    definitions: &mut [u8],
+    ranges: &mut [u8],
+    references: &mut [u8],
+) -> Outcome
+    requires { ⌜ length (now text) ≤ maxTextBytes ⌝ }
+    requires { ⌜ Sized (record { names = now names; categories = now categories; definitions = now definitions; ranges = now ranges; references = now references }) ⌝ }
+    ensures { λ r. ⌜ LinesRead (readAll (now (text .entry))) (record { names = now (names .exit); categories = now (categories .exit); definitions = now (definitions .exit); ranges = now (ranges .exit); references = now (references .exit) }) r ⌝ }
+{
+    zero_all(names, categories, definitions, ranges, references);
+    match fill_tables(text, names, categories, definitions, ranges, references) {
+        Walk::Ended(counts) => Outcome::Accepted(counts),
+        Walk::Stopped(refusal) => {
+            zero_all(names, categories, definitions, ranges, references);
+            Outcome::Refused(refusal)
+        }
+    }
 }
