@@ -4,10 +4,11 @@ use Prim.Native.Nat.{ℕ, _+_, _*_, _-_, _≤_, _<_}
 use native.Mathlib.Nat.{le-refl}
 use native.Mathlib.Omega.{arith}
 use mathlib.Core.Path.{_≡_, refl, sym, ap, _∙_, subst}
-use mathlib.Core.Bool.{Bool, true, false, _&&_}
+use mathlib.Core.Bool.{Bool, true, false, not, _&&_}
 use mathlib.Core.List.{List, [], _++_, append-nil}
 use lib.Dec.{T, leb}
-use lib.ListN.{length, drop, replicate, drop-of-length-le}
+use lib.ListN.{length, take, drop, replicate, drop-of-length-le}
+use lib.Seq.{length-take-le}
 use mir.Facts.{and-yes, yes-and, yes-leb, leb-yes}
 use borrow.Author.Tests.{le-leb}
 use Rattle.paper.specs.Sizes.{maxCategories, maxNameBytes, maxCategoryLines, maxRanges, maxReferences}
@@ -16,7 +17,7 @@ use Rattle.paper.specs.Tables.Lent.{zeroed, padded}
 use Rattle.paper.proofs.Lists.Facts.{T→true}
 use Rattle.paper.proofs.Tables.Trip.{tables-is}
 use Rattle.char_def.specs.Lines.{Sized, noTables}
-use Rattle.char_def.specs.Parse.{roomFor}
+use Rattle.char_def.specs.Parse.{roomFor, hasRoom}
 
 -- ---- refusal 1
 
@@ -61,6 +62,50 @@ module _ (a b c d e : ℕ) where
 
   pub room-is : true ≡ roomFor a b c d e → Room a b c d e
   room-is h = room-says (subst T h tt)
+
+-- the test in the code is of its opposite
+not-true : (b : Bool) → not b ≡ true → false ≡ b
+not-true true e = e
+not-true false e = refl
+
+not-false : (b : Bool) → not b ≡ false → true ≡ b
+not-false true e = refl
+not-false false e = e
+
+abbrev pub RoomIn : Tables → Type 0
+RoomIn t = Room (length (t .names)) (length (t .categories)) (length (t .definitions)) (length (t .ranges)) (length (t .references))
+
+module _ (t : Tables) {x : Bool} (h : x ≡ hasRoom t) where
+  pub lacking : not x ≡ true → false ≡ hasRoom t
+  lacking n = not-true x n ∙ h
+
+  pub having : not x ≡ false → true ≡ hasRoom t
+  having n = not-false x n ∙ h
+
+  pub roomy : not x ≡ false → RoomIn t
+  roomy n = room-is _ _ _ _ _ (having n)
+
+-- ---- parts of the sizes
+
+pub part-long : (n : ℕ) (l : List ℕ) → n ≤ length l → n ≡ length (take n l)
+part-long n l h = sym (length-take-le n l h)
+
+pub parts-sized : (t : Tables) → RoomIn t
+    → Sized (record {
+      names = take maxNameBytes (t .names);
+      categories = take (4 * maxCategories) (t .categories);
+      definitions = take (6 * maxCategoryLines) (t .definitions);
+      ranges = take (8 * maxRanges) (t .ranges);
+      references = take (2 * maxReferences) (t .references);
+    })
+parts-sized t h =
+    record {
+      names = length-take-le maxNameBytes (t .names) (h .for-names);
+      categories = length-take-le (4 * maxCategories) (t .categories) (h .for-categories);
+      definitions = length-take-le (6 * maxCategoryLines) (t .definitions) (h .for-definitions);
+      ranges = length-take-le (8 * maxRanges) (t .ranges) (h .for-ranges);
+      references = length-take-le (2 * maxReferences) (t .references) (h .for-references);
+    }
 
 -- ---- zero in every place
 

@@ -31,7 +31,7 @@ use Rattle.char_def.specs.declared.Outcome.{Outcome}
 use Rattle.char_def.specs.declared.Outcome.the-variants.{Accepted, Refused}
 use Rattle.char_def.specs.Lines.{readBytes, readAll, Sized, noTables, LinesRead}
 use Rattle.char_def.specs.Parse.{roomFor, hasRoom, answerTo, given, past, cleared, leaves, Parsed}
-use Rattle.char_def.proofs.Sizes.{Room, room-is}
+use Rattle.char_def.proofs.Sizes.{Room, RoomIn, room-is}
 use Rattle.char_def.proofs.Text.{read-bytes}
 
 -- ---- the answer
@@ -75,9 +75,6 @@ zero-past n l h =
     let k : n - 0 ≡ n = omega arith in
     rw (le-leb n (length l) h) (ap (λ m. replicate m 0 ++ drop n l) k)
 
-abbrev RoomIn : Tables → Type 0
-RoomIn t = Room (length (t .names)) (length (t .categories)) (length (t .definitions)) (length (t .ranges)) (length (t .references))
-
 cleared-is : (t : Tables) → RoomIn t → behind (inRoom noTables) (past t) ≡ cleared t
 unfolding behind inRoom noTables past cleared
 cleared-is t h =
@@ -110,7 +107,7 @@ module _ (text : List ℕ) (t : Tables) where
     pub ill-text : length text ≤ maxTextBytes → (p : ℕ) → LongestPrefix p text → p < length text → Parsed text t t (Refused (record { number = textIllFormed; place = p }))
     ill-text h p z l = unchanged textIllFormed p (has-answer ∙ ill-formed-exactly text p .1 (h, part-ill text p z l, z)) (omega arith)
 
-    pub lines-read : length text ≤ maxTextBytes → WellFormed text → (part after : Tables) → after ≡ behind part (past t)
+    lines-read : length text ≤ maxTextBytes → WellFormed text → (part after : Tables) → after ≡ behind part (past t)
         → (r : Outcome) → LinesRead (readAll text) part r → Parsed text t after r
     lines-read h w part after e (Accepted n) z =
         let a : answerTo text t ≡ accepted (z .reading) = has-answer ∙ read-text text h w ∙ z .is in
@@ -127,3 +124,16 @@ module _ (text : List ℕ) (t : Tables) where
           memory = e ∙ ap (λ y. behind y (past t)) (z .tables) ∙ cleared-is t (room-is _ _ _ _ _ room)
               ∙ sym (ap (λ y. leaves y t) a ∙ ap (λ b. cond b (cleared t) t) (le-leb rangeParts (x .number) k));
         }
+
+    -- what lies past the sizes stays behind the parts that were lent
+    pub lines-parsed : length text ≤ maxTextBytes → WellFormed text → (part : Tables) (r : Outcome) → LinesRead (readAll text) part r
+        → Parsed text t
+        (record {
+          names = part .names ++ drop maxNameBytes (t .names);
+          categories = part .categories ++ drop (4 * maxCategories) (t .categories);
+          definitions = part .definitions ++ drop (6 * maxCategoryLines) (t .definitions);
+          ranges = part .ranges ++ drop (8 * maxRanges) (t .ranges);
+          references = part .references ++ drop (2 * maxReferences) (t .references);
+        }) r
+    unfolding behind past
+    lines-parsed h w part r z = lines-read h w part (behind part (past t)) refl r z

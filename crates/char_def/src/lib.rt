@@ -491,3 +491,49 @@ fn read_lines(
         }
     }
 }
+
+// Reads a text into lent tables. Nothing is written for 1 to 3; 4 to 13 leave zero up to the sizes; past the sizes nothing is touched.
+pub fn parse(
+    text: &[u8],
+    names: &mut [u8],
+    categories: &mut [u8],
+    definitions: &mut [u8],
+    ranges: &mut [u8],
+    references: &mut [u8],
+) -> Outcome
+    ensures { λ r. ⌜ Parsed (now (text .entry)) (record { names = now (names .entry); categories = now (categories .entry); definitions = now (definitions .entry); ranges = now (ranges .entry); references = now (references .entry) }) (record { names = now (names .exit); categories = now (categories .exit); definitions = now (definitions .exit); ranges = now (ranges .exit); references = now (references .exit) }) r ⌝ }
+{
+    if !has_room(
+        names.len(),
+        categories.len(),
+        definitions.len(),
+        ranges.len(),
+        references.len(),
+    ) {
+        return Outcome::Refused(Refusal {
+            number: ROOM_SHORT,
+            place: 0,
+        });
+    }
+    if MAX_TEXT_BYTES < text.len() {
+        return Outcome::Refused(Refusal {
+            number: TEXT_LONG,
+            place: 0,
+        });
+    }
+    let prefix = text::valid_prefix(text);
+    if prefix < text.len() {
+        return Outcome::Refused(Refusal {
+            number: TEXT_ILL_FORMED,
+            place: prefix,
+        });
+    }
+    read_lines(
+        text,
+        &mut names[..MAX_NAME_BYTES],
+        &mut categories[..CATEGORIES_SIZE],
+        &mut definitions[..DEFINITIONS_SIZE],
+        &mut ranges[..RANGES_SIZE],
+        &mut references[..REFERENCES_SIZE],
+    )
+}
