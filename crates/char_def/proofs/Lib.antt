@@ -8,3 +8,4 @@ pub mod Walking
 pub mod Text
 pub mod Filled
 pub mod Whole
+pub mod Promise
