@@ -1,29 +1,21 @@
--- On UTF-8 a line's bytes say what its characters say: `line-bridge`. Every step of `lineBytes` is a step of `lineOf`.
+-- The marks of UTF-8 are its characters', each spread over its bytes; so its words are the words of its characters.
 -- Assumes nothing.
-use Prim.Native.Nat.{ℕ, zero, suc, _+_, _-_, _*_, _/_, _%_, _<_, _≤_}
+use Prim.Native.Nat.{ℕ, suc, _+_, _-_, _/_, _%_, _<_, _≤_}
 use native.Mathlib.Omega.{arith}
-use mathlib.Core.Path.{_≡_, refl, sym, ap, ap₂, _∙_, subst}
-use mathlib.Core.Bool.{Bool, true, false, not, cond, _&&_, _||_}
-use mathlib.Core.Option.{Option, none, some}
-use mathlib.Core.List.{List, [], _∷_, _++_, map, append-assoc}
-use lib.Dec.{T, leb, ltb, eqb}
-use lib.ListN.{length, length-append}
+use mathlib.Core.Path.{_≡_, refl, ap, ap₂, _∙_}
+use mathlib.Core.Bool.{Bool, true, false, cond}
+use mathlib.Core.List.{List, [], _∷_, _++_, map}
+use lib.Dec.{T, leb, ltb}
+use lib.ListN.{length}
 use mir.Facts.{and-yes, yes-and, leb-yes, yes-leb}
-use borrow.Author.Tests.{lt-ltb, leb-true, leb-false, eqb-true, eqb-false, ne-eqb}
-use Rattle.paper.specs.Lists.{all, full, empty, push, words, until, trimStart, trimEnd}
-use Rattle.paper.specs.Text.Scalar.{between, isWhite, isSep, utf8Of, utf8}
-use Rattle.paper.specs.CharDef.Line.{Line, blank, category, range, isHash, begins0x}
-use Rattle.paper.specs.Numbers.Numeral.{digitOf, isDigit, valueAfter}
+use borrow.Author.Tests.{lt-ltb, leb-true, leb-false}
+use Rattle.paper.specs.Lists.{all, full, words}
+use Rattle.paper.specs.Text.Scalar.{utf8Of, utf8}
 use Rattle.paper.specs.Computed.Decode.{isTail}
-use Rattle.paper.specs.Computed.Numeral.{dropPlus, spelledBy, numeral}
-use Rattle.paper.specs.Computed.ReadText.{Found, found, wrong, BoundFound, boundIs, noBound, strip0x, parts, checkedBound, boundOf, fromBounds, fromParts, rangeOf, fromNumbers, categoryOf, body, bodyLine, lineOf}
 use Rattle.paper.proofs.Text.Lengths.{enc-1, enc-2, enc-3, enc-4}
-use Rattle.paper.proofs.Lists.Facts.{T→true, T→false, true→T, un, pushAll}
-use Rattle.paper.proofs.Text.Bytes.{pushAll-utf8}
-use Rattle.line.proofs.Spread.{spread, Agrees, until-spread, trimStart-spread, trimEnd-spread, words-spread}
-use Rattle.text.specs.Answers.{whiteWidth}
-use Rattle.line.specs.Marks.{Mark, byte, inGap, hashMark, marksFrom, marks, sepWidth, gapWidth, wordsBytes, bodyBytes, bodyLineBytes, lineBytes, inBytes}
-use Rattle.line.proofs.Widths.{white-lead, white-tail, sep-lead, sep-tail}
+use Rattle.paper.proofs.Lists.Facts.{un}
+use Rattle.line.proofs.Spread.{spread, Agrees, words-spread}
+use Rattle.line.specs.Marks.{Mark, byte, inGap, marksFrom, marks, wordsBytes}
 
 -- ---- the bytes of a character
 

@@ -6,4 +6,4 @@ pub mod Scan
 pub mod Runs
 pub mod Steps
 pub mod Lines
-pub mod Reading
+pub mod Fits

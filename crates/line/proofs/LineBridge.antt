@@ -1,62 +1,65 @@
--- On UTF-8 a line's bytes say what its characters say: `line-bridge`.
+-- On UTF-8 a line's bytes say what its characters say: `line-bridge`. Every step of `lineBytes` is a step of `lineOf`, since no byte of a
+-- character from U+0080 on is `#`, `.`, a digit, a sign or a letter.
 -- Assumes nothing.
-use Prim.Native.Nat.{ℕ, zero, suc, _+_, _-_, _<_, _≤_}
+use Prim.Native.Nat.{ℕ, _<_, _≤_}
 use native.Mathlib.Omega.{arith}
-use mathlib.Core.Path.{_≡_, refl, sym, ap, ap₂, _∙_, subst}
-use mathlib.Core.Bool.{Bool, true, false, not, cond, _&&_, _||_}
+use mathlib.Core.Path.{_≡_, refl, sym, ap, _∙_, subst}
+use mathlib.Core.Bool.{Bool, true, false, cond, _&&_}
 use mathlib.Core.Option.{Option, none, some}
 use mathlib.Core.List.{List, [], _∷_, _++_, map}
-use lib.Dec.{T, leb, ltb, eqb}
+use lib.Dec.{T, leb, eqb}
 use mir.Facts.{and-yes, yes-and, leb-yes}
-use borrow.Author.Tests.{lt-leb, le-ltb, eqb-true, eqb-false, ne-eqb}
-use Rattle.paper.specs.Lists.{all, full, empty, push, words, until, trimStart, trimEnd}
-use Rattle.paper.specs.Text.Scalar.{between, isWhite, isSep, utf8Of, utf8}
-use Rattle.paper.specs.CharDef.Line.{Line, blank, category, range, isHash, begins0x}
-use Rattle.paper.specs.Numbers.Numeral.{digitOf, isDigit, valueAfter}
+use borrow.Author.Tests.{lt-leb, le-ltb, eqb-true, ne-eqb}
+use Rattle.paper.specs.Sizes.{maxU16, maxU32}
+use Rattle.paper.specs.Lists.{all, full, push, words, until, trimStart, trimEnd}
+use Rattle.paper.specs.Text.Scalar.{between, isWhite, isSep, utf8Of, utf8, hash, plusSign, dot, digit0, letterX}
+use Rattle.paper.specs.CharDef.Line.{isHash, begins0x}
+use Rattle.paper.specs.Numbers.Numeral.{digitOf, isDigit}
 use Rattle.paper.specs.Computed.Decode.{isTail}
 use Rattle.paper.specs.Computed.Numeral.{dropPlus, spelledBy, numeral}
-use Rattle.paper.specs.Computed.ReadText.{Found, found, wrong, BoundFound, boundIs, noBound, strip0x, parts, checkedBound, boundOf, fromBounds, fromParts, rangeOf, fromNumbers, categoryOf, body, bodyLine, lineOf}
-use Rattle.paper.proofs.Lists.Facts.{T→true, T→false, true→T, un, pushAll, full-all}
+use Rattle.paper.specs.Computed.ReadText.{Found, BoundFound, boundIs, noBound, strip0x, parts, checkedBound, boundOf, fromBounds, fromParts, rangeOf, fromNumbers, categoryOf, body, bodyLine, lineOf}
+use Rattle.paper.proofs.Lists.Facts.{true→T, un, pushAll, full-all}
 use Rattle.paper.proofs.Text.Bytes.{pushAll-utf8}
-use Rattle.line.proofs.Spread.{spread, Agrees, until-spread, trimStart-spread, trimEnd-spread}
+use Rattle.numeral.proofs.Bounds.{strip-off, strip-off₂}
+use Rattle.line.proofs.Spread.{Agrees, until-spread, trimStart-spread, trimEnd-spread}
 use Rattle.text.specs.Answers.{whiteWidth}
-use Rattle.line.specs.Marks.{Mark, byte, inGap, hashMark, marks, gapWidth, wordsBytes, bodyBytes, bodyLineBytes, lineBytes, inBytes}
+use Rattle.line.specs.Marks.{byte, inGap, hashMark, gapWidth, wordsBytes, bodyBytes, bodyLineBytes, lineBytes, inBytes}
 use Rattle.line.proofs.Widths.{white-lead, white-tail, sep-lead, sep-tail}
-use Rattle.line.proofs.Bridge.{Front, low, high, front, tag, tagged, alike-gap, byte-spread, marks-utf8, words-utf8}
+use Rattle.line.proofs.Bridge.{low, high, front, tag, tagged, alike-gap, byte-spread, marks-utf8, words-utf8}
 
 -- ---- the body
 
-not-35 : (b : ℕ) → 0x80 ≤ b → eqb b 35 ≡ false
-not-35 b h = ne-eqb b 35 (λ e. omega arith)
+not-hash : (b : ℕ) → 0x80 ≤ b → eqb b hash ≡ false
+not-hash b h = ne-eqb b hash (λ e. omega arith)
 
 no-hash : (w : Bool) (l : List ℕ) → T (all isTail l) → T (all (un hashMark) (tag w l))
 no-hash w [] a = tt
 no-hash w (b ∷ l) a =
     let h = and-yes (isTail b) (all isTail l) a in
     let k : 0x80 ≤ b = leb-yes (and-yes (leb 0x80 b) (leb b 0xBF) (h .0) .0) in
-    yes-and (un hashMark (b, w)) (all (un hashMark) (tag w l)) (rw (not-35 b k) tt) (no-hash w l (h .1))
+    yes-and (un hashMark (b, w)) (all (un hashMark) (tag w l)) (rw (not-hash b k) tt) (no-hash w l (h .1))
 
 alike-hash : (c : ℕ) → Agrees hashMark (tagged isWhite c) (isHash c)
 unfolding isWhite
 alike-hash c = elim (front c) [
-  | low h e ↦ rw e (ascii (eqb c 35) refl)
-  | high h a u e k t ↦ rw (e, not-35 c h) (yes-and (un hashMark (a, isWhite c)) _ (rw (not-35 a k) tt) (no-hash (isWhite c) u t))
+  | low h e ↦ rw e (ascii (eqb c hash) refl)
+  | high h a u e k t ↦ rw (e, not-hash c h) (yes-and (un hashMark (a, isWhite c)) _ (rw (not-hash a k) tt) (no-hash (isWhite c) u t))
 ]
   where
-    ascii : (x : Bool) → eqb c 35 ≡ x → Agrees hashMark ((c, isWhite c) ∷ []) x
-    ascii true e = rw (eqb-true c 35 e) tt
+    ascii : (x : Bool) → eqb c hash ≡ x → Agrees hashMark ((c, isWhite c) ∷ []) x
+    ascii true e = rw (eqb-true c hash e) tt
     ascii false e = rw e tt
 
 -- a `#` is no white space, so it does not matter which is looked for first
 swap : (cs : List ℕ) → until isHash (trimStart isWhite cs) ≡ trimStart isWhite (until isHash cs)
 unfolding isWhite
 swap [] = refl
-swap (c ∷ cs) = go (isWhite c) (eqb c 35) refl refl (swap cs)
+swap (c ∷ cs) = go (isWhite c) (eqb c hash) refl refl (swap cs)
   where
-    clash : eqb c 35 ≡ true → isWhite c ≡ true → ⊥
-    clash e f = subst T (sym f ∙ ap isWhite (eqb-true c 35 e)) tt
+    clash : eqb c hash ≡ true → isWhite c ≡ true → ⊥
+    clash e f = subst T (sym f ∙ ap isWhite (eqb-true c hash e)) tt
 
-    go : (w h : Bool) → isWhite c ≡ w → eqb c 35 ≡ h → until isHash (trimStart isWhite cs) ≡ trimStart isWhite (until isHash cs)
+    go : (w h : Bool) → isWhite c ≡ w → eqb c hash ≡ h → until isHash (trimStart isWhite cs) ≡ trimStart isWhite (until isHash cs)
         → until isHash (cond w (trimStart isWhite cs) (c ∷ cs)) ≡ trimStart isWhite (cond h [] (c ∷ until isHash cs))
     go true true e f ih = absurd (clash f e)
     go true false e f ih = rw e ih
@@ -132,8 +135,8 @@ module _ (base limit : ℕ) (h : base ≤ 16) where
   unfolding utf8
   plus-utf8 [] = refl
   plus-utf8 (c ∷ cs) = elim (front c) [
-    | low k e ↦ rw e (go (eqb c 43) e)
-    | high k a u e l t ↦ rw (e, ne-eqb a 43 (λ q. omega arith), ne-eqb c 43 (λ q. omega arith)) (rw e)
+    | low k e ↦ rw e (go (eqb c plusSign) e)
+    | high k a u e l t ↦ rw (e, ne-eqb a plusSign (λ q. omega arith), ne-eqb c plusSign (λ q. omega arith)) (rw e)
   ]
     where
       go : (x : Bool) → utf8Of c ≡ c ∷ [] → cond x (utf8 cs) (c ∷ utf8 cs) ≡ utf8 (cond x cs (c ∷ cs))
@@ -146,48 +149,36 @@ module _ (base limit : ℕ) (h : base ≤ 16) where
 
 -- ---- `0x` and `..`
 
--- what stands behind a first character that begins no pair
-pub strip-off : (a : ℕ) (s : List ℕ) → eqb a 48 ≡ false → strip0x (a ∷ s) ≡ a ∷ s
-strip-off a [] e = refl
-strip-off a (b ∷ s) e = rw e
-
-pub strip-off₂ : (a b : ℕ) (s : List ℕ) → eqb b 120 ≡ false → strip0x (a ∷ b ∷ s) ≡ a ∷ b ∷ s
-strip-off₂ a b s e = go (eqb a 48)
-  where
-    go : (x : Bool) → cond (x && eqb b 120) (strip0x s) (a ∷ b ∷ s) ≡ a ∷ b ∷ s
-    go true = rw e
-    go false = refl
-
-begins-off : (a : ℕ) (s : List ℕ) → eqb a 48 ≡ false → begins0x (a ∷ s) ≡ false
+begins-off : (a : ℕ) (s : List ℕ) → eqb a digit0 ≡ false → begins0x (a ∷ s) ≡ false
 begins-off a [] e = refl
 begins-off a (b ∷ s) e = rw e
 
-begins-off₂ : (a b : ℕ) (s : List ℕ) → eqb b 120 ≡ false → begins0x (a ∷ b ∷ s) ≡ false
-begins-off₂ a b s e = go (eqb a 48)
+begins-off₂ : (a b : ℕ) (s : List ℕ) → eqb b letterX ≡ false → begins0x (a ∷ b ∷ s) ≡ false
+begins-off₂ a b s e = go (eqb a digit0)
   where
-    go : (x : Bool) → (x && eqb b 120) ≡ false
+    go : (x : Bool) → (x && eqb b letterX) ≡ false
     go true = e
     go false = refl
 
-high-48 : (a : ℕ) → 0x80 ≤ a → eqb a 48 ≡ false
-high-48 a h = ne-eqb a 48 (λ e. omega arith)
+high-digit0 : (a : ℕ) → 0x80 ≤ a → eqb a digit0 ≡ false
+high-digit0 a h = ne-eqb a digit0 (λ e. omega arith)
 
-high-120 : (a : ℕ) → 0x80 ≤ a → eqb a 120 ≡ false
-high-120 a h = ne-eqb a 120 (λ e. omega arith)
+high-letterX : (a : ℕ) → 0x80 ≤ a → eqb a letterX ≡ false
+high-letterX a h = ne-eqb a letterX (λ e. omega arith)
 
 pub strip-utf8 : (f : List ℕ) → strip0x (utf8 f) ≡ utf8 (strip0x f)
 unfolding utf8
 strip-utf8 [] = refl
 strip-utf8 (c ∷ []) = elim (front c) [
   | low h e ↦ rw e
-  | high h a u e k t ↦ rw e (strip-off a (u ++ []) (high-48 a k))
+  | high h a u e k t ↦ rw e (strip-off a (u ++ []) (high-digit0 a k))
 ]
 strip-utf8 (c ∷ d ∷ cs) = let ih = strip-utf8 cs in elim (front c) [
   | low h e ↦ elim (front d) [
-    | low i f ↦ rw (e, f) (both (eqb c 48 && eqb d 120) e f ih)
-    | high i b v f l w ↦ rw (e, f) (strip-off₂ c b (v ++ utf8 cs) (high-120 b l) ∙ shown e f ∙ ap utf8 (sym (strip-off₂ c d cs (high-120 d i))))
+    | low i f ↦ rw (e, f) (both (eqb c digit0 && eqb d letterX) e f ih)
+    | high i b v f l w ↦ rw (e, f) (strip-off₂ c b (v ++ utf8 cs) (high-letterX b l) ∙ shown e f ∙ ap utf8 (sym (strip-off₂ c d cs (high-letterX d i))))
   ]
-  | high h a u e k t ↦ rw e (strip-off a (u ++ (utf8Of d ++ utf8 cs)) (high-48 a k) ∙ shown′ e ∙ ap utf8 (sym (strip-off c (d ∷ cs) (high-48 c h))))
+  | high h a u e k t ↦ rw e (strip-off a (u ++ (utf8Of d ++ utf8 cs)) (high-digit0 a k) ∙ shown′ e ∙ ap utf8 (sym (strip-off c (d ∷ cs) (high-digit0 c h))))
 ]
   where
     both : (x : Bool) → utf8Of c ≡ c ∷ [] → utf8Of d ≡ d ∷ [] → strip0x (utf8 cs) ≡ utf8 (strip0x cs)
@@ -206,37 +197,37 @@ unfolding utf8
 begins-utf8 [] = refl
 begins-utf8 (c ∷ []) = elim (front c) [
   | low h e ↦ rw e
-  | high h a u e k t ↦ rw e (begins-off a (u ++ []) (high-48 a k))
+  | high h a u e k t ↦ rw e (begins-off a (u ++ []) (high-digit0 a k))
 ]
 begins-utf8 (c ∷ d ∷ cs) = elim (front c) [
   | low h e ↦ elim (front d) [
     | low i f ↦ rw (e, f)
-    | high i b v f l w ↦ rw (e, f) (begins-off₂ c b (v ++ utf8 cs) (high-120 b l) ∙ sym (begins-off₂ c d cs (high-120 d i)))
+    | high i b v f l w ↦ rw (e, f) (begins-off₂ c b (v ++ utf8 cs) (high-letterX b l) ∙ sym (begins-off₂ c d cs (high-letterX d i)))
   ]
-  | high h a u e k t ↦ rw e (begins-off a (u ++ (utf8Of d ++ utf8 cs)) (high-48 a k) ∙ sym (begins-off c (d ∷ cs) (high-48 c h)))
+  | high h a u e k t ↦ rw e (begins-off a (u ++ (utf8Of d ++ utf8 cs)) (high-digit0 a k) ∙ sym (begins-off c (d ∷ cs) (high-digit0 c h)))
 ]
 
 -- a first character that begins no `..`, or is alone
-pub parts-off : (a : ℕ) (s : List ℕ) → eqb a 46 ≡ false → parts (a ∷ s) ≡ push a (parts s)
+pub parts-off : (a : ℕ) (s : List ℕ) → eqb a dot ≡ false → parts (a ∷ s) ≡ push a (parts s)
 parts-off a [] e = refl
 parts-off a (b ∷ s) e = rw e
 
-pub parts-off₂ : (a b : ℕ) (s : List ℕ) → eqb b 46 ≡ false → parts (a ∷ b ∷ s) ≡ push a (parts (b ∷ s))
-parts-off₂ a b s e = go (eqb a 46)
+pub parts-off₂ : (a b : ℕ) (s : List ℕ) → eqb b dot ≡ false → parts (a ∷ b ∷ s) ≡ push a (parts (b ∷ s))
+parts-off₂ a b s e = go (eqb a dot)
   where
-    go : (x : Bool) → cond (x && eqb b 46) ([] ∷ parts s) (push a (parts (b ∷ s))) ≡ push a (parts (b ∷ s))
+    go : (x : Bool) → cond (x && eqb b dot) ([] ∷ parts s) (push a (parts (b ∷ s))) ≡ push a (parts (b ∷ s))
     go true = rw e
     go false = refl
 
-high-46 : (a : ℕ) → 0x80 ≤ a → eqb a 46 ≡ false
-high-46 a h = ne-eqb a 46 (λ e. omega arith)
+high-dot : (a : ℕ) → 0x80 ≤ a → eqb a dot ≡ false
+high-dot a h = ne-eqb a dot (λ e. omega arith)
 
 parts-run : (u s : List ℕ) → T (all isTail u) → parts (u ++ s) ≡ pushAll u (parts s)
 parts-run [] s t = refl
 parts-run (b ∷ u) s t =
     let h = and-yes (isTail b) (all isTail u) t in
     let k : 0x80 ≤ b = leb-yes (and-yes (leb 0x80 b) (leb b 0xBF) (h .0) .0) in
-    parts-off b (u ++ s) (high-46 b k) ∙ ap (push b) (parts-run u s (h .1))
+    parts-off b (u ++ s) (high-dot b k) ∙ ap (push b) (parts-run u s (h .1))
 
 some-push : (c : ℕ) (q : List (List ℕ)) → (l : List ℕ) × (ls : List (List ℕ)) × (push c q ≡ l ∷ ls)
 some-push c [] = (c ∷ [], [], refl)
@@ -245,7 +236,7 @@ some-push c (l ∷ ls) = (c ∷ l, ls, refl)
 pub parts-some : (f : List ℕ) → (l : List ℕ) × (ls : List (List ℕ)) × (parts f ≡ l ∷ ls)
 parts-some [] = ([], [], refl)
 parts-some (c ∷ []) = (c ∷ [], [], refl)
-parts-some (c ∷ d ∷ cs) = go (eqb c 46 && eqb d 46)
+parts-some (c ∷ d ∷ cs) = go (eqb c dot && eqb d dot)
   where
     go : (x : Bool) → (l : List ℕ) × (ls : List (List ℕ)) × (cond x ([] ∷ parts cs) (push c (parts (d ∷ cs))) ≡ l ∷ ls)
     go true = ([], parts cs, refl)
@@ -261,21 +252,21 @@ unfolding utf8
 parts-utf8 [] = refl
 parts-utf8 (c ∷ []) = elim (front c) [
   | low h e ↦ rw e
-  | high h a u e k t ↦ rw e (parts-off a (u ++ []) (high-46 a k) ∙ ap (push a) (parts-run u [] t) ∙ rw e at (push-utf8 c [] ([] ∷ []) refl))
+  | high h a u e k t ↦ rw e (parts-off a (u ++ []) (high-dot a k) ∙ ap (push a) (parts-run u [] t) ∙ rw e at (push-utf8 c [] ([] ∷ []) refl))
 ]
 parts-utf8 (c ∷ d ∷ cs) = let ih = parts-utf8 cs in let jh = parts-utf8 (d ∷ cs) in elim (front c) [
   | low h e ↦ elim (front d) [
-    | low i f ↦ rw (e, f) (both (eqb c 46 && eqb d 46) ih (rw e at (push-utf8 c (d ∷ cs) (parts (d ∷ utf8 cs)) (rw f at jh))))
+    | low i f ↦ rw (e, f) (both (eqb c dot && eqb d dot) ih (rw e at (push-utf8 c (d ∷ cs) (parts (d ∷ utf8 cs)) (rw f at jh))))
     | high i b v f l w ↦
         rw (e, f)
-        (parts-off₂ c b (v ++ utf8 cs) (high-46 b l) ∙ rw e at (push-utf8 c (d ∷ cs) (parts (b ∷ (v ++ utf8 cs))) (rw f at jh))
-        ∙ ap (map utf8) (sym (parts-off₂ c d cs (high-46 d i))))
+        (parts-off₂ c b (v ++ utf8 cs) (high-dot b l) ∙ rw e at (push-utf8 c (d ∷ cs) (parts (b ∷ (v ++ utf8 cs))) (rw f at jh))
+        ∙ ap (map utf8) (sym (parts-off₂ c d cs (high-dot d i))))
   ]
   | high h a u e k t ↦
       rw e
-      (parts-off a (u ++ (utf8Of d ++ utf8 cs)) (high-46 a k) ∙ ap (push a) (parts-run u (utf8Of d ++ utf8 cs) t)
+      (parts-off a (u ++ (utf8Of d ++ utf8 cs)) (high-dot a k) ∙ ap (push a) (parts-run u (utf8Of d ++ utf8 cs) t)
       ∙ rw e at (push-utf8 c (d ∷ cs) (parts (utf8Of d ++ utf8 cs)) jh)
-      ∙ ap (map utf8) (sym (parts-off c (d ∷ cs) (high-46 c h))))
+      ∙ ap (map utf8) (sym (parts-off c (d ∷ cs) (high-dot c h))))
 ]
   where
     both : (x : Bool) → parts (utf8 cs) ≡ map utf8 (parts cs) → push c (parts (d ∷ utf8 cs)) ≡ map utf8 (push c (parts (d ∷ cs)))
@@ -287,7 +278,7 @@ parts-utf8 (c ∷ d ∷ cs) = let ih = parts-utf8 cs in let jh = parts-utf8 (d �
 
 pub bound-utf8 : (f : List ℕ) → boundOf (utf8 f) ≡ boundOf f
 unfolding boundOf
-bound-utf8 f = ap (λ l. checkedBound (numeral 16 0xFFFF l)) (strip-utf8 f) ∙ ap checkedBound (numeral-utf8 16 0xFFFF (omega arith) (strip0x f))
+bound-utf8 f = ap (λ l. checkedBound (numeral 16 maxU16 l)) (strip-utf8 f) ∙ ap checkedBound (numeral-utf8 16 maxU16 (omega arith) (strip0x f))
 
 edges-utf8 : (e f : BoundFound) (names : List (List ℕ)) → fromBounds e f (map utf8 names) ≡ inBytes (fromBounds e f names)
 edges-utf8 (noBound n) f names = refl
@@ -319,8 +310,8 @@ category-utf8 (n ∷ []) = refl
 category-utf8 (n ∷ i ∷ []) = refl
 category-utf8 (n ∷ i ∷ g ∷ []) = refl
 category-utf8 (n ∷ i ∷ g ∷ l ∷ []) =
-    rw (numeral-utf8 10 0xFFFF_FFFF (omega arith) i, numeral-utf8 10 0xFFFF_FFFF (omega arith) g, numeral-utf8 10 0xFFFF_FFFF (omega arith) l)
-    (numbers-utf8 n (numeral 10 0xFFFF_FFFF i) (numeral 10 0xFFFF_FFFF g) (numeral 10 0xFFFF_FFFF l))
+    rw (numeral-utf8 10 maxU32 (omega arith) i, numeral-utf8 10 maxU32 (omega arith) g, numeral-utf8 10 maxU32 (omega arith) l)
+    (numbers-utf8 n (numeral 10 maxU32 i) (numeral 10 maxU32 g) (numeral 10 maxU32 l))
 category-utf8 (n ∷ i ∷ g ∷ l ∷ m ∷ r) = refl
 
 -- ---- the line

@@ -2,21 +2,20 @@
 -- Assumes nothing.
 use Rattle.text.specs.Answers.{whiteWidth}
 use Rattle.line.specs.Marks.{Mark, byte, inGap, hashMark, marksFrom, marks, gapWidth, wordsBytes, bodyBytes}
-use Rattle.line.proofs.Bridge.{marks-solid, marks-nil}
+use Rattle.line.proofs.Bridge.{marks-nil}
 use Prim.Native.Nat.{ℕ, zero, suc, _+_, _-_, _≤_, _<_}
 use native.Mathlib.Omega.{arith}
-use mathlib.Core.Path.{_≡_, refl, sym, ap, ap₂, _∙_, subst}
-use mathlib.Core.Bool.{Bool, true, false, not, cond, _&&_, _||_}
+use mathlib.Core.Path.{_≡_, refl, sym, ap, _∙_, subst}
+use mathlib.Core.Bool.{Bool, true, false, not, cond, _&&_}
 use mathlib.Core.List.{List, [], _∷_, _++_, map}
-use lib.Dec.{T, leb, ltb, eqb}
-use lib.ListN.{length, take, drop, getD, length-map, length-take, length-drop, length-append}
-use lib.Seq.{drop-drop, take-take, length-take-le, take-nil}
+use lib.Dec.{T, ltb}
+use lib.ListN.{length, take, drop, length-map, length-take, length-drop, length-append}
+use lib.Seq.{drop-drop, take-take, take-nil}
 use borrow.Author.Tests.{lt-ltb}
-use Rattle.paper.specs.Lists.{all, full, nothingOr, empty, until, trimStart, trimEnd, words}
-use Rattle.paper.proofs.Lists.Facts.{un, T→true, T→false, words-word, words-run}
-use Rattle.paper.proofs.Lists.Parts.{nothing, uncons, part-length, take-part, clamp}
-use Rattle.line.specs.declared.Part.{Part}
-use Rattle.line.specs.Answer.{gapRun, wordRun, solid, word-and, bytesOf, NextWord, Body, Least}
+use Rattle.paper.specs.Lists.{all, nothingOr, empty, until, trimStart, trimEnd, words}
+use Rattle.paper.proofs.Lists.Facts.{un, words-word, words-run}
+use Rattle.paper.proofs.Lists.Parts.{take-part}
+use Rattle.line.specs.Answer.{gapRun, solid, word-and}
 
 -- ---- runs are fronts
 

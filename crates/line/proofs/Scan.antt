@@ -3,20 +3,20 @@
 use Rattle.line.proofs.Spread.{until-run, until-stop, trimEnd-gone, trimEnd-stay}
 use Rattle.text.specs.Answers.{whiteWidth}
 use Rattle.line.specs.Marks.{Mark, inGap, hashMark, marks, gapWidth, gapByte}
-use Rattle.line.proofs.Widths.{white-le, gap-le, gap-ascii, gap-high}
+use Rattle.line.proofs.Widths.{white-le, white-none, gap-le, gap-ascii, gap-high}
 use Rattle.line.proofs.Bridge.{tag, marks-gap, marks-solid, marks-nil}
 use Prim.Native.Nat.{ℕ, zero, suc, _+_, _-_, _≤_, _<_}
 use native.Mathlib.Omega.{arith}
-use mathlib.Core.Path.{_≡_, refl, sym, ap, ap₂, _∙_, subst}
-use mathlib.Core.Bool.{Bool, true, false, not, cond, _&&_, _||_}
-use mathlib.Core.List.{List, [], _∷_, _++_, map}
-use mathlib.Core.Logic.{_⊎_, inl, inr}
-use lib.Dec.{T, leb, ltb, eqb}
-use lib.ListN.{length, take, drop, getD, length-append, take-append-drop, length-drop}
+use mathlib.Core.Path.{_≡_, refl, sym, ap, ap₂, _∙_}
+use mathlib.Core.Logic.{_⊎_}
+use mathlib.Core.Bool.{Bool, true, false, not, cond, _&&_}
+use mathlib.Core.List.{List, [], _∷_, _++_}
+use lib.Dec.{T, eqb}
+use lib.ListN.{length, take, drop, getD, length-append, take-append-drop}
 use lib.Seq.{drop-drop, length-take-le}
-use borrow.Author.Tests.{lt-leb, le-leb, eq-eqb, ne-eqb}
-use Rattle.paper.specs.Lists.{all, full, empty, until, trimStart, trimEnd}
-use Rattle.paper.specs.Text.Scalar.{between, isWhite, isSep}
+use borrow.Author.Tests.{ne-eqb}
+use Rattle.paper.specs.Text.Scalar.{hash}
+use Rattle.paper.specs.Lists.{all, full, empty, until, trimEnd}
 use Rattle.paper.proofs.Lists.Facts.{un}
 use Rattle.paper.proofs.Lists.Parts.{nothing, uncons, part-length}
 use Rattle.line.specs.Answer.{gapRun, wordRun, solid}
@@ -37,7 +37,7 @@ tag-un (b ∷ s) = tag-un s
 
 tag-hash : (s : List ℕ) → T (all (un hashMark) (tag true s))
 tag-hash [] = tt
-tag-hash (b ∷ s) = go (eqb b 35) (tag-hash s)
+tag-hash (b ∷ s) = go (eqb b hash) (tag-hash s)
   where
     go : (x : Bool) → T (all (un hashMark) (tag true s)) → T (not (x && false) && all (un hashMark) (tag true s))
     go true t = t
@@ -155,13 +155,13 @@ solid-nil : solid [] ≡ []
 unfolding solid
 solid-nil = ap (λ m. trimEnd inGap (until hashMark m)) (marks-nil whiteWidth)
 
-solid-hash : (t : List ℕ) (b : ℕ) → b ≡ 35 → whiteWidth (b ∷ t) ≡ 0 → solid (b ∷ t) ≡ []
+solid-hash : (t : List ℕ) (b : ℕ) → b ≡ hash → whiteWidth (b ∷ t) ≡ 0 → solid (b ∷ t) ≡ []
 unfolding solid
 solid-hash t b e z = ap (λ m. trimEnd inGap (until hashMark m)) (marks-solid whiteWidth b t z) ∙ rw e
 
-solid-on : (t : List ℕ) (b : ℕ) → (b ≡ 35 → ⊥) → whiteWidth (b ∷ t) ≡ 0 → solid (b ∷ t) ≡ (b, false) ∷ solid t
+solid-on : (t : List ℕ) (b : ℕ) → (b ≡ hash → ⊥) → whiteWidth (b ∷ t) ≡ 0 → solid (b ∷ t) ≡ (b, false) ∷ solid t
 unfolding solid
-solid-on t b n z = ap (λ m. trimEnd inGap (until hashMark m)) (marks-solid whiteWidth b t z) ∙ rw (ne-eqb b 35 n)
+solid-on t b n z = ap (λ m. trimEnd inGap (until hashMark m)) (marks-solid whiteWidth b t z) ∙ rw (ne-eqb b hash n)
 
 solid-gap : (s : List ℕ) → 0 < whiteWidth s
     → solid s ≡ trimEnd inGap (tag true (take (whiteWidth s) s) ++ until hashMark (marks whiteWidth (drop (whiteWidth s) s)))
@@ -214,13 +214,13 @@ module _ (l : List ℕ) (at end last : ℕ) where
       zero-here : whiteWidth (getD l at 0 ∷ drop (at + 1) (take end l)) ≡ 0
       zero-here = ap whiteWidth (sym (uncons l at end h k)) ∙ sym e ∙ z
 
-      pub solid-stop : getD l at 0 ≡ 35 → endOf last at (solid (drop at (take end l))) ≡ last
+      pub solid-stop : getD l at 0 ≡ hash → endOf last at (solid (drop at (take end l))) ≡ last
       unfolding endOf
       solid-stop q =
           ap (λ s. endOf last at (solid s)) (uncons l at end h k)
           ∙ ap (endOf last at) (solid-hash (drop (at + 1) (take end l)) (getD l at 0) q zero-here)
 
-      pub solid-step : (getD l at 0 ≡ 35 → ⊥) → endOf last at (solid (drop at (take end l))) ≡ endOf (at + 1) (at + 1) (solid (drop (at + 1) (take end l)))
+      pub solid-step : (getD l at 0 ≡ hash → ⊥) → endOf last at (solid (drop at (take end l))) ≡ endOf (at + 1) (at + 1) (solid (drop (at + 1) (take end l)))
       unfolding endOf
       solid-step q =
           let t = solid (drop (at + 1) (take end l)) in
@@ -237,6 +237,11 @@ module _ (l : List ℕ) (at end : ℕ) (white : Bool) where
         let q : getD l at 0 ≤ 0x7F = omega arith in
         ap (λ b. cond b 1 0) (sym f ∙ e) ∙ sym (gap-ascii white (getD l at 0) (drop (at + 1) (take end l)) q)
         ∙ ap (gapWidth white) (sym (uncons l at end h k))
+
+    pub width-other : 0x80 ≤ getD l at 0 → (getD l at 0 ≡ 0xC2 → ⊥) → (getD l at 0 < 0xE1) ⊎ (0xE3 < getD l at 0) → white ≡ true
+        → 0 ≡ gapWidth white (drop at (take end l))
+    unfolding gapWidth
+    width-other m f g e = sym (ap₂ gapWidth e (uncons l at end h k) ∙ white-none (getD l at 0) (drop (at + 1) (take end l)) m f g)
 
     pub width-none : 0x80 ≤ getD l at 0 → white ≡ false → 0 ≡ gapWidth white (drop at (take end l))
     width-none m e =

@@ -1,14 +1,14 @@
 -- Each character is spread into one or more elements, all of which a test takes as the character: what is cut by the test is
 -- cut in the same places, before and after.
 -- Assumes nothing.
-use Prim.Native.Nat.{ℕ, zero, suc, _+_}
-use mathlib.Core.Path.{_≡_, refl, sym, ap, ap₂, _∙_, subst}
-use mathlib.Core.Bool.{Bool, true, false, not, cond, _&&_, _||_}
-use mathlib.Core.List.{List, [], _∷_, _++_, map, append-assoc}
+use Prim.Native.Nat.{ℕ}
+use mathlib.Core.Path.{_≡_, refl, sym, ap, _∙_, subst}
+use mathlib.Core.Bool.{Bool, true, false, not, cond, _&&_}
+use mathlib.Core.List.{List, [], _∷_, _++_, map}
 use lib.Dec.{T}
-use mir.Facts.{and-yes, yes-and}
+use mir.Facts.{and-yes}
 use Rattle.paper.specs.Lists.{all, full, empty, select, push, cut, words, until, trimStart, trimEnd}
-use Rattle.paper.proofs.Lists.Facts.{T→true, T→false, un, full-all, pushAll, pushAll-first, cut-run}
+use Rattle.paper.proofs.Lists.Facts.{T→true, T→false, un, full-all, pushAll, cut-run}
 
 abbrev pub spread : {A : Type 0} → (ℕ → List A) → List ℕ → List A
 spread f [] = []

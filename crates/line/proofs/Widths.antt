@@ -6,13 +6,13 @@ use native.Mathlib.Omega.{arith}
 use native.Mathlib.Decide.{ℕ-discrete}
 use mathlib.Core.Path.{_≡_, refl, sym, ap, _∙_}
 use mathlib.Core.Logic.{_⊎_, inl, inr}
-use mathlib.Core.Bool.{Bool, true, false, cond, _&&_, _||_}
+use mathlib.Core.Bool.{Bool, true, false, cond, _&&_}
 use mathlib.Core.List.{List, [], _∷_, _++_}
 use lib.Dec.{leb}
 use lib.ListN.{length, drop, getD}
 use borrow.Author.Tests.{lt-leb, leb-true, leb-false, ne-eqb}
 use Rattle.paper.specs.Text.Scalar.{between, In, whites, isWhite, isSep, utf8Of}
-use Rattle.paper.specs.Computed.Decode.{First, bad, good, lowest, highest, isTail, three, four, first}
+use Rattle.paper.specs.Computed.Decode.{First, bad, good, isTail, first}
 use Rattle.paper.proofs.Text.Scalar.{scalar-low, scalar-high}
 use Rattle.paper.proofs.Text.Lengths.{enc-1, enc-2, enc-3, enc-4}
 use Rattle.text.specs.Answers.{whiteBy, whiteWidth}
@@ -47,26 +47,15 @@ ill-F5 a s h =
     let h₄ : 0xEF < a = omega arith in
     rw (lt-leb a 0x7F h₁, lt-leb a 0xC1 h₂, lt-leb a 0xDF h₃, lt-leb a 0xEF h₄, lt-leb a 0xF4 h)
 
+-- White_Space beyond ASCII stands below U+3001, and but for two characters from U+1680 on
+white-far : (c : ℕ) → 0x3000 < c → isWhite c ≡ false
+white-far c h = no-white c ((λ i. omega arith), ((λ i. omega arith), ((λ i. omega arith), ((λ i. omega arith), ((λ i. omega arith), ((λ i. omega arith), ((λ i. omega arith), ((λ i. omega arith), ((λ i. omega arith), ((λ i. omega arith), ((λ i. omega arith), tt)))))))))))
+
+white-near : (c : ℕ) → 0x80 ≤ c → c < 0x1680 → (c ≡ 0x85 → ⊥) → (c ≡ 0xA0 → ⊥) → isWhite c ≡ false
+white-near c l h f g = no-white c ((λ i. omega arith), ((λ i. omega arith), ((λ i. omega arith), ((λ i. omega arith), ((λ i. omega arith), ((λ i. omega arith), ((λ i. omega arith), ((λ i. omega arith), ((λ i. omega arith), ((λ i. omega arith), ((λ i. omega arith), tt)))))))))))
+
 no-gap : (c : ℕ) (s : List ℕ) (n : ℕ) → 0xD800 ≤ c → whiteWidth s ≡ 0 → whiteWidth s ≡ cond (isWhite c) n 0
-no-gap c s n h e = e ∙ ap (λ x. cond x n 0) (sym (no-white c outside))
-  where
-    outside : Outside c whites
-    outside = (
-      (λ i. omega arith),
-      (
-        (λ i. omega arith),
-        (
-          (λ i. omega arith),
-          (
-            (λ i. omega arith),
-            (
-              (λ i. omega arith),
-              ((λ i. omega arith), ((λ i. omega arith), ((λ i. omega arith), ((λ i. omega arith), ((λ i. omega arith), ((λ i. omega arith), tt)))))),
-            ),
-          ),
-        ),
-      ),
-    )
+no-gap c s n h e = e ∙ ap (λ x. cond x n 0) (sym (white-far c (omega arith)))
 
 ill-surrogate : (c : ℕ) (t : List ℕ) → 0xD800 ≤ c → c ≤ 0xDFFF → whiteWidth (utf8Of c ++ t) ≡ 0
 ill-surrogate c t l h =
@@ -108,6 +97,42 @@ white-lead c t = go (leb c 0xD7FF) (leb c 0xDFFF) (leb c 0x10FFFF) refl refl ref
 pub white-tail : (b : ℕ) (t : List ℕ) → 0x80 ≤ b → b ≤ 0xBF → whiteWidth (b ∷ t) ≡ 0
 white-tail b t l h = width-tail b t (record { from = l; to = h })
 
+-- where a character's first byte is no first byte of White_Space
+module _ (b : ℕ) (t : List ℕ) (high : 0x80 ≤ b) (two : b ≡ 0xC2 → ⊥) (three : (b < 0xE1) ⊎ (0xE3 < b)) where
+  lead-no : (c : ℕ) (u : List ℕ) → b ∷ t ≡ utf8Of c ++ u → isWhite c ≡ false
+  lead-no c u e = go (leb c 0x7F) (leb c 0x7FF) (leb c 0xFFFF) refl refl refl three
+    where
+      first-is : {s : List ℕ} → utf8Of c ≡ s → b ≡ getD (s ++ u) 0 0
+      first-is d = ap (λ l. getD l 0 0) (e ∙ ap (λ s. s ++ u) d)
+
+      go : (x y z : Bool) → leb c 0x7F ≡ x → leb c 0x7FF ≡ y → leb c 0xFFFF ≡ z → (b < 0xE1) ⊎ (0xE3 < b) → isWhite c ≡ false
+      go true y z f g h o =
+          let l : c ≤ 0x7F = leb-true c 0x7F f in
+          let d : b ≡ c = first-is (enc-1 c l) in
+          absurd (omega arith)
+      go false true z f g h o =
+          let l : 0x80 ≤ c = leb-false c 0x7F f in
+          let m : c ≤ 0x7FF = leb-true c 0x7FF g in
+          let d : b ≡ 0xC0 + c / 64 = first-is (enc-2 c l m) in
+          white-near c l (omega arith) (λ q. omega arith) (λ q. omega arith)
+      go false false true f g h (inl o) =
+          let l : 0x800 ≤ c = leb-false c 0x7FF g in
+          let d : b ≡ 0xE0 + c / 4096 = first-is (enc-3 c l (leb-true c 0xFFFF h)) in
+          white-near c (omega arith) (omega arith) (λ q. omega arith) (λ q. omega arith)
+      go false false true f g h (inr o) =
+          let l : 0x800 ≤ c = leb-false c 0x7FF g in
+          let d : b ≡ 0xE0 + c / 4096 = first-is (enc-3 c l (leb-true c 0xFFFF h)) in
+          white-far c (omega arith)
+      go false false false f g h o = white-far c (omega (arith, leb-false c 0xFFFF h))
+
+  pub white-none : whiteWidth (b ∷ t) ≡ 0
+  unfolding whiteWidth
+  white-none = go (first b t) refl
+    where
+      go : (f : First) → first b t ≡ f → whiteBy f ≡ 0
+      go bad e = refl
+      go (good c extra) e = ap (λ x. cond x (suc extra) 0) (lead-no c (drop (suc extra) (b ∷ t)) (found (b ∷ t) c extra e .split))
+
 -- a gap's character stands whole
 cond-le : (x : Bool) (a n : ℕ) → a ≤ n → cond x a 0 ≤ n
 cond-le true a n h = h
@@ -129,29 +154,31 @@ unfolding isSep
 sep-high b h =
     rw (ne-eqb b 0x09 (λ k. omega arith), ne-eqb b 0x0C (λ k. omega arith), ne-eqb b 0x0D (λ k. omega arith), ne-eqb b 0x20 (λ k. omega arith))
 
+sep-byte : (b : ℕ) (t : List ℕ) → 0x80 ≤ b → sepWidth (b ∷ t) ≡ 0
+unfolding sepWidth
+sep-byte b t h = ap (λ x. cond x 1 0) (sep-high b h)
+
 -- a character from U+0080 has a first byte from 80
-high-lead : (c : ℕ) (t : List ℕ) → 0x80 ≤ c → 0x80 ≤ getD (utf8Of c ++ t) 0 255
-high-lead c t l = go (leb c 0x7FF) (leb c 0xFFFF) refl refl
+sep-none : (c : ℕ) (t : List ℕ) → 0x80 ≤ c → sepWidth (utf8Of c ++ t) ≡ 0
+sep-none c t l = go (leb c 0x7FF) (leb c 0xFFFF) refl refl
   where
-    go : (y z : Bool) → leb c 0x7FF ≡ y → leb c 0xFFFF ≡ z → 0x80 ≤ getD (utf8Of c ++ t) 0 255
-    go true z f g = let h : c ≤ 0x7FF = leb-true c 0x7FF f in rw (enc-2 c l h) (omega arith)
-    go false true f g =
-        let k : 0x800 ≤ c = leb-false c 0x7FF f in let h : c ≤ 0xFFFF = leb-true c 0xFFFF g in rw (enc-3 c k h) (omega arith)
-    go false false f g = let k : 0x10000 ≤ c = leb-false c 0xFFFF g in rw (enc-4 c k) (omega arith)
+    go : (y z : Bool) → leb c 0x7FF ≡ y → leb c 0xFFFF ≡ z → sepWidth (utf8Of c ++ t) ≡ 0
+    go true z f g = rw (enc-2 c l (leb-true c 0x7FF f)) (sep-byte (0xC0 + c / 64) _ (omega arith))
+    go false true f g = rw (enc-3 c (leb-false c 0x7FF f) (leb-true c 0xFFFF g)) (sep-byte (0xE0 + c / 4096) _ (omega arith))
+    go false false f g = rw (enc-4 c (leb-false c 0xFFFF g)) (sep-byte (0xF0 + c / 262144) _ (omega arith))
 
 pub sep-lead : (c : ℕ) (t : List ℕ) → sepWidth (utf8Of c ++ t) ≡ cond (isSep c) (length (utf8Of c)) 0
 unfolding sepWidth
 sep-lead c t = go (leb c 0x7F) refl
   where
-    go : (x : Bool) → leb c 0x7F ≡ x → cond (isSep (getD (utf8Of c ++ t) 0 255)) 1 0 ≡ cond (isSep c) (length (utf8Of c)) 0
-    go true e = let l : c ≤ 0x7F = leb-true c 0x7F e in rw (enc-1 c l)
+    go : (x : Bool) → leb c 0x7F ≡ x → sepWidth (utf8Of c ++ t) ≡ cond (isSep c) (length (utf8Of c)) 0
+    go true e = rw (enc-1 c (leb-true c 0x7F e))
     go false e =
         let l : 0x80 ≤ c = leb-false c 0x7F e in
-        ap (λ x. cond x 1 0) (sep-high (getD (utf8Of c ++ t) 0 255) (high-lead c t l)) ∙ ap (λ x. cond x (length (utf8Of c)) 0) (sym (sep-high c l))
+        sep-none c t l ∙ ap (λ x. cond x (length (utf8Of c)) 0) (sym (sep-high c l))
 
 pub sep-tail : (b : ℕ) (t : List ℕ) → 0x80 ≤ b → b ≤ 0xBF → sepWidth (b ∷ t) ≡ 0
-unfolding sepWidth
-sep-tail b t l h = ap (λ x. cond x 1 0) (sep-high b l)
+sep-tail b t l h = sep-byte b t l
 
 sep-le : (s : List ℕ) → sepWidth s ≤ length s
 unfolding sepWidth isSep
@@ -172,8 +199,8 @@ gap-ascii true b t h = width-ascii b t h
 gap-ascii false b t h = refl
 
 pub gap-high : (b : ℕ) (t : List ℕ) → 0x80 ≤ b → gapWidth false (b ∷ t) ≡ 0
-unfolding gapWidth sepWidth
-gap-high b t h = ap (λ x. cond x 1 0) (sep-high b h)
+unfolding gapWidth
+gap-high b t h = sep-byte b t h
 
 -- ---- which bytes are gaps by themselves
 

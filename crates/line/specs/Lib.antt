@@ -1,2 +1,4 @@
 pub mod Marks
 pub mod Answer
+pub mod Asked
+pub mod Fits

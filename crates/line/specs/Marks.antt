@@ -1,15 +1,14 @@
 -- A line's bytes, said without decoding: each byte is marked by whether it belongs to a gap between words,
--- and what the paper says of characters is said of marked bytes. `Bridge` shows that on UTF-8 both say the same.
+-- and what the paper says of characters is said of marked bytes. `LineBridge` proves that on UTF-8 both say the same.
 -- Assumes nothing.
 use Prim.Native.Nat.{ℕ, zero, suc, _-_}
 use mathlib.Core.Bool.{Bool, true, false, not, cond, _&&_}
 use mathlib.Core.List.{List, [], _∷_, map}
 use lib.Dec.{ltb, eqb}
-use lib.ListN.{getD}
 use Rattle.text.specs.Answers.{whiteWidth}
 use Rattle.paper.specs.Lists.{words, until, trimStart, trimEnd}
-use Rattle.paper.specs.Text.Scalar.{isWhite, isSep, utf8}
-use Rattle.paper.specs.CharDef.Line.{Line, blank, category, range, begins0x}
+use Rattle.paper.specs.Text.Scalar.{isWhite, isSep, utf8, hash}
+use Rattle.paper.specs.CharDef.Line.{blank, category, range, begins0x}
 use Rattle.paper.specs.Computed.ReadText.{Found, found, wrong, rangeOf, categoryOf}
 
 -- ---- how wide a gap's first character is, from the first bytes
@@ -17,7 +16,8 @@ use Rattle.paper.specs.Computed.ReadText.{Found, found, wrong, rangeOf, categor
 -- TAB, FF, CR or space in front: 1; else 0
 unfoldable pub sepWidth : List ℕ → ℕ
 unfolding isSep
-sepWidth s = cond (isSep (getD s 0 255)) 1 0
+sepWidth [] = 0
+sepWidth (b ∷ s) = cond (isSep b) 1 0
 
 -- the gaps of a range line, and those of a category line
 unfoldable pub gapWidth : Bool → List ℕ → ℕ
@@ -43,7 +43,7 @@ abbrev pub inGap : Mark → Bool
 inGap m = m .1
 
 abbrev pub hashMark : Mark → Bool
-hashMark m = eqb (m .0) 35 && not (m .1)
+hashMark m = eqb (m .0) hash && not (m .1)
 
 -- from a byte of which `skip` and those after belong to the gap before
 unfoldable pub marksFrom : (List ℕ → ℕ) → ℕ → List ℕ → List Mark

@@ -1,19 +1,21 @@
-// A line of char.def, read from the bytes of a text: blank, a category line, a range line, or the number of its refusal.
-ghost use Rattle.line.specs.Marks.{gapByte, gapWidth, wordsBytes, lineBytes};
-ghost use mathlib.Core.Path.{_≡_};
-ghost use mathlib.Core.Bool.{true, false};
-ghost use Prim.Native.Nat.{ℕ, _+_, _≤_, _<_};
-ghost use lib.ListN.{length, take, drop};
-ghost use Rattle.paper.specs.Lists.{until, trimEnd};
-ghost use Rattle.paper.specs.CharDef.Line.{begins0x};
-ghost use Rattle.paper.specs.Computed.ReadText.{rangeOf, categoryOf};
-ghost use Rattle.line.specs.Answer.{Inside, gapRun, wordRun, solid, Least, NextWord, Body, Dots, Begins, rangeAnswer, categoryAnswer, FieldsAre, bodyPart, Says};
+// A line of char.def, item 4 of the paper, from the bytes of a text: blank, a category line, a range line, or the number of its
+// refusal. A line is given by the text and its ends; an end past the text is the text's, and a line that starts behind its end is empty.
 use numeral::Bound;
 use numeral::Number;
 use paper::BOUND_UNREADABLE;
 use paper::CATEGORY_FIELDS;
 use paper::CATEGORY_NUMBER;
 use paper::RANGE_PARTS;
+ghost use mathlib.Core.Path.{_≡_};
+ghost use mathlib.Core.Bool.{true, false};
+ghost use Prim.Native.Nat.{_+_, _≤_, _<_};
+ghost use lib.ListN.{length, take, drop};
+ghost use Rattle.paper.specs.CharDef.Line.{begins0x};
+ghost use Rattle.paper.specs.Computed.ReadText.{rangeOf, categoryOf};
+ghost use Rattle.numeral.specs.Asked.{Least};
+ghost use Rattle.line.specs.Marks.{gapByte, gapWidth, wordsBytes, lineBytes};
+ghost use Rattle.line.specs.Answer.{gapRun, wordRun, solid, NextWord, Body, part, bodyPart, Says};
+ghost use Rattle.line.specs.Asked.{Inside, Dots, rangeAnswer, FieldsAre, categoryAnswer};
 
 const TAB: u8 = 0x09;
 
@@ -25,12 +27,31 @@ const FF: u8 = 0x0C;
 
 const CR: u8 = 0x0D;
 
-// A part of the text.
+// From here on a byte is part of a character of several.
+const ASCII_END: u8 = 0x80;
+
+// The first bytes of White_Space beyond ASCII: of U+0085 and 00A0, and of U+1680 to 3000.
+const WHITE_LEAD_2: u8 = 0xC2;
+
+const WHITE_LEAD_3: u8 = 0xE1;
+
+const WHITE_LEAD_3_END: u8 = 0xE3;
+
+// Bytes of `0x` and of `..`.
+const WIDTH_0X: usize = 2;
+
+const WIDTH_DOTS: usize = 2;
+
+// A flag is true at this number and at no other.
+const TRUE: u32 = 1;
+
+// A part of the text, from `start` up to `end`.
 pub struct Part {
     pub start: usize,
     pub end: usize,
 }
 
+// A category line: the flags and the length, and where its name stands.
 pub struct CategoryLine {
     pub invoke: bool,
     pub group: bool,
@@ -38,6 +59,7 @@ pub struct CategoryLine {
     pub name: Part,
 }
 
+// A range line: the bounds, and the part of which its names are the words.
 pub struct RangeLine {
     pub lower: u16,
     pub upper: u16,
@@ -50,31 +72,32 @@ pub enum Line {
     Range(RangeLine),
 }
 
+// What a line says, or the number of its refusal.
 pub enum LineAnswer {
     Read(Line),
     Refused(u32),
 }
 
-// The four fields of a category line.
-pub struct Four {
-    pub name: Part,
-    pub invoke: Part,
-    pub group: Part,
-    pub length: Part,
+// The fields of a category line, where they are four.
+struct Four {
+    name: Part,
+    invoke: Part,
+    group: Part,
+    length: Part,
 }
 
-pub enum Fields {
+enum Fields {
     Are(Four),
     NotFour,
 }
 
 // Where `..` stands first.
-pub enum DotsAt {
+enum DotsAt {
     At(usize),
     Nowhere,
 }
 
-// An ASCII character that is a gap: TAB, FF, CR and space between the words of either kind of line, LF and VT as White_Space only.
+// An ASCII character that stands between words: TAB, FF, CR and space in either kind of line, LF and VT as White_Space only.
 fn is_gap(b: u8, white: bool) -> bool
     requires { ⌜ b < 0x80 ⌝ }
     ensures { λ r. ⌜ r ≡ gapByte white b ⌝ }
@@ -92,14 +115,17 @@ fn gap_width(text: &[u8], at: usize, end: usize, white: bool) -> usize
     ensures { λ r. ⌜ r ≡ gapWidth white (drop at (take end (now (text .entry)))) ⌝ }
 {
     let b = text[at];
-    if b < 0x80 {
+    if b < ASCII_END {
         if is_gap(b, white) {
             return 1;
         }
         return 0;
     }
     if white {
-        return text::white_width(&text[..end], at);
+        return match b {
+            WHITE_LEAD_2 | WHITE_LEAD_3..=WHITE_LEAD_3_END => text::white_width(&text[..end], at),
+            _ => 0,
+        };
     }
     0
 }
@@ -164,7 +190,7 @@ fn least(a: usize, b: usize) -> usize
     if a < b { a } else { b }
 }
 
-// The body of the line from `start` to `end`: what stands before the first `#`, without White_Space at both ends.
+// The body of the line from `start` to `end`: what stands before the first `#`, with White_Space trimmed at both ends.
 pub fn body_of(text: &[u8], start: usize, end: usize) -> Part
     ensures { λ r. ⌜ Body (now (text .entry)) start end r ⌝ }
 {
@@ -183,7 +209,8 @@ pub fn body_of(text: &[u8], start: usize, end: usize) -> Part
     }
 }
 
-// The next word from `start` to `end`: it is empty where there is none. Words stand between White_Space, or between a category line's separators.
+// The next word from `start` to `end`, empty where there is none. Words stand between White_Space, or, where `white` is false, between
+// TAB, FF, CR and space only.
 pub fn next_word(text: &[u8], start: usize, end: usize, white: bool) -> Part
     ensures { λ r. ⌜ NextWord (now (text .entry)) start end white r ⌝ }
 {
@@ -209,7 +236,7 @@ fn find_dots(text: &[u8], start: usize, end: usize) -> DotsAt
 {
     let mut at = start;
     while at < end {
-        if end - at < 2 {
+        if end - at < WIDTH_DOTS {
             return DotsAt::Nowhere;
         }
         if text[at] == b'.' {
@@ -226,9 +253,9 @@ fn find_dots(text: &[u8], start: usize, end: usize) -> DotsAt
 
 fn begins_0x(text: &[u8], start: usize, end: usize) -> bool
     requires { ⌜ Inside (now text) start end ⌝ }
-    ensures { λ r. ⌜ Begins (now (text .entry)) start end r ⌝ }
+    ensures { λ r. ⌜ r ≡ begins0x (drop start (take end (now (text .entry)))) ⌝ }
 {
-    if end - start < 2 {
+    if end - start < WIDTH_0X {
         return false;
     }
     if text[start] != b'0' {
@@ -247,7 +274,7 @@ fn range_of(lower: Bound, upper: Bound, names: Part) -> LineAnswer
     match lower {
         Bound::NoBound(n) => LineAnswer::Refused(n),
         Bound::Code(l) => match upper {
-            Bound::NoBound(n) => LineAnswer::Refused(n),
+            Bound::NoBound(m) => LineAnswer::Refused(m),
             Bound::Code(u) => LineAnswer::Read(Line::Range(RangeLine {
                 lower: l,
                 upper: u,
@@ -257,10 +284,10 @@ fn range_of(lower: Bound, upper: Bound, names: Part) -> LineAnswer
     }
 }
 
-// A body that begins with a word: its first word is the bounds, the others are names.
+// The body of a range line: its first word is the bounds, the others are names.
 fn parse_range(text: &[u8], start: usize, end: usize) -> LineAnswer
     requires { ⌜ Inside (now text) start end ⌝ }
-    ensures { λ r. ⌜ Says (now (text .entry)) (record { start = start; end = end }) (rangeOf (wordsBytes (gapWidth true) (drop start (take end (now (text .entry)))))) r ⌝ }
+    ensures { λ r. ⌜ Says (now (text .entry)) (part start end) (rangeOf (wordsBytes (gapWidth true) (drop start (take end (now (text .entry)))))) r ⌝ }
 {
     let w = next_word(text, start, end, true);
     let first = w.start;
@@ -277,18 +304,18 @@ fn parse_range(text: &[u8], start: usize, end: usize) -> LineAnswer
             let b = numeral::parse_hex_codepoint(text, first, stop);
             range_of(b, b, names)
         }
-        DotsAt::At(at) => match find_dots(text, at + 2, stop) {
+        DotsAt::At(at) => match find_dots(text, at + WIDTH_DOTS, stop) {
             DotsAt::At(_) => LineAnswer::Refused(RANGE_PARTS),
             DotsAt::Nowhere => {
                 let lower = numeral::parse_hex_codepoint(text, first, at);
-                let upper = numeral::parse_hex_codepoint(text, at + 2, stop);
+                let upper = numeral::parse_hex_codepoint(text, at + WIDTH_DOTS, stop);
                 range_of(lower, upper, names)
             }
         },
     }
 }
 
-// The words of a body between a category line's separators, where they are four.
+// The words of a category line's body.
 fn fields_of(text: &[u8], start: usize, end: usize) -> Fields
     ensures { λ r. ⌜ FieldsAre (now (text .entry)) start end r ⌝ }
 {
@@ -335,8 +362,8 @@ fn category_of(name: Part, invoke: Number, group: Number, length: Number) -> Lin
             Number::Value(g) => match length {
                 Number::Bad => LineAnswer::Refused(CATEGORY_NUMBER),
                 Number::Value(n) => LineAnswer::Read(Line::Category(CategoryLine {
-                    invoke: i == 1,
-                    group: g == 1,
+                    invoke: i == TRUE,
+                    group: g == TRUE,
                     length: n,
                     name: name,
                 })),
@@ -345,8 +372,9 @@ fn category_of(name: Part, invoke: Number, group: Number, length: Number) -> Lin
     }
 }
 
+// The body of a category line: a name and three numbers.
 fn parse_category(text: &[u8], start: usize, end: usize) -> LineAnswer
-    ensures { λ r. ⌜ Says (now (text .entry)) (record { start = start; end = end }) (categoryOf (wordsBytes (gapWidth false) (drop start (take end (now (text .entry)))))) r ⌝ }
+    ensures { λ r. ⌜ Says (now (text .entry)) (part start end) (categoryOf (wordsBytes (gapWidth false) (drop start (take end (now (text .entry)))))) r ⌝ }
 {
     match fields_of(text, start, end) {
         Fields::NotFour => LineAnswer::Refused(CATEGORY_FIELDS),

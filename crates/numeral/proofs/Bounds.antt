@@ -15,13 +15,13 @@ use Rattle.paper.specs.Text.Scalar.{digit0, letterX}
 use Rattle.paper.specs.CharDef.Line.{standsFor}
 use Rattle.paper.specs.Computed.Numeral.{numeral}
 use Rattle.paper.specs.Computed.ReadText.{strip0x, boundIs, noBound, checkedBound, boundOf}
-use Rattle.paper.proofs.CharDef.Sound.{numeral-sound}
 use Rattle.paper.proofs.Lists.Parts.{nothing, uncons}
+use Rattle.paper.proofs.Numbers.Read.{numeral-sound}
 use Rattle.numeral.proofs.Digits.{below, above, within}
 
 -- ---- `0x`
 
-strip-off : (a : ℕ) (s : List ℕ) → eqb a digit0 ≡ false → strip0x (a ∷ s) ≡ a ∷ s
+pub strip-off : (a : ℕ) (s : List ℕ) → eqb a digit0 ≡ false → strip0x (a ∷ s) ≡ a ∷ s
 strip-off a [] e = refl
 strip-off a (b ∷ s) e = rw e
 

@@ -2,29 +2,27 @@
 -- accepted exactly when some number fits, with that number, and refused by the number whose reason holds. So two answers that
 -- a promise allows coincide.
 -- Assumes nothing.
-use Prim.Native.Nat.{ℕ, zero, suc, _≤_}
+use Prim.Native.Nat.{ℕ, _≤_}
 use native.Mathlib.Omega.{arith}
 use mathlib.Core.Path.{_≡_, refl, sym, ap, _∙_, subst}
 use mathlib.Core.Logic.{_↔_, _≢_, _⊎_, inl, inr}
-use mathlib.Core.Bool.{Bool, true, false, not, cond, _&&_}
+use mathlib.Core.Bool.{Bool, true, false}
 use mathlib.Core.Option.{Option, none, some}
-use mathlib.Core.List.{List, [], _∷_, _++_}
-use lib.Dec.{T, eqb}
-use mir.Facts.{and-yes}
+use mathlib.Core.List.{List}
+use lib.Dec.{eqb}
 use borrow.Author.Tests.{eqb-true, eqb-false, ne-eqb}
 use Rattle.paper.specs.Sizes.{maxU16, maxU32, maxI32, lowI32}
 use Rattle.paper.specs.Refusals.{boundUnreadable, boundMark}
-use Rattle.paper.specs.Lists.{without}
-use Rattle.paper.specs.Text.Scalar.{digit0, letterX}
-use Rattle.paper.specs.Numbers.Numeral.{isDigit, Numeral, Integer, pos, neg, SignedNumeral}
-use Rattle.paper.specs.CharDef.Line.{zeroXs, standsFor}
+use Rattle.paper.specs.Numbers.Numeral.{Numeral, Integer, pos, neg, SignedNumeral, decimal, hexadecimal, noDigit}
+use Rattle.paper.specs.CharDef.Line.{standsFor}
 use Rattle.paper.specs.CharDef.Line as line
+use Rattle.paper.specs.CharDef.BadLine.{Hex16}
 use Rattle.paper.specs.Computed.Numeral.{numeral, signedNumeral}
 use Rattle.paper.specs.Computed.ReadText.{boundIs, noBound, strip0x, checkedBound, boundOf}
-use Rattle.paper.proofs.Lists.Facts.{T→false, full-all}
+use Rattle.paper.proofs.Apart.{zero-one, none-some}
+use Rattle.paper.proofs.Numbers.Read.{decimal-small}
 use Rattle.paper.proofs.Numbers.Laws as laws
-use Rattle.paper.proofs.CharDef.Sound.{zero-one, numeral-sound}
-use Rattle.paper.proofs.CharDef.Complete.{digit-apart, numeral-chars, numeral-read}
+use Rattle.paper.proofs.CharDef.Bounds.{hex-read, hex-found}
 use Rattle.numeral.specs.declared.Number.{Number}
 use Rattle.numeral.specs.declared.Number.the-variants as number
 use Rattle.numeral.specs.declared.Signed.{Signed}
@@ -32,11 +30,7 @@ use Rattle.numeral.specs.declared.Signed.the-variants as signed
 use Rattle.numeral.specs.declared.Bound.{Bound}
 use Rattle.numeral.specs.declared.Bound.the-variants as bound
 use Rattle.numeral.specs.Said.{saidNumber, saidSigned, saidBound}
-use Rattle.numeral.specs.Fits.{NumberFits, SignedFits, HexCode, Marked, CodeFits, unreadable, mark, BoundFits}
-use Rattle.numeral.proofs.Bounds.{strip-off₂}
-
-none-some {ℓ} : {X : Type ℓ} {A : Type 0} {x : A} → none ≡ some x → X
-none-some e = zero-one (cc)
+use Rattle.numeral.specs.Fits.{NumberFits, SignedFits, Marked, CodeFits, unreadable, mark, BoundFits}
 
 -- ---- an answer is what it says
 
@@ -77,7 +71,7 @@ module _ {A : Type 0} {Fits : A → Type 0} (o : Option A) (law : (x : A) → (o
       go never none e = sym e
       go never (some x) e = absurd (never x (law x .0 e))
 
-module _ (base limit : ℕ) (b16 : base ≤ 16) (cs : List ℕ) where
+module _ (base limit : ℕ) (b16 : base ≤ noDigit) (cs : List ℕ) where
   pub number-fits : (r : Number) → (saidNumber r ≡ numeral base limit cs) ↔ NumberFits base limit cs r
   number-fits (number.Value n) = some-fits (numeral base limit cs) (laws.unsigned base limit b16 cs) n
   number-fits number.Bad = none-fits (numeral base limit cs) (laws.unsigned base limit b16 cs)
@@ -89,7 +83,7 @@ module _ (base limit : ℕ) (b16 : base ≤ 16) (cs : List ℕ) where
   pub number-read : (r : Number) → NumberFits base limit cs r → (n : ℕ) → (r ≡ number.Value n) ↔ Numeral base limit cs n
   number-read r f n = (λ e. subst (NumberFits base limit cs) e f, λ g. number-one r (number.Value n) f g)
 
-module _ (base top low : ℕ) (b16 : base ≤ 16) (cs : List ℕ) where
+module _ (base top low : ℕ) (b16 : base ≤ noDigit) (cs : List ℕ) where
   pub signed-fits : (r : Signed) → (saidSigned r ≡ signedNumeral base top low cs) ↔ SignedFits base top low cs r
   signed-fits (signed.Plus n) = some-fits (signedNumeral base top low cs) (laws.signed base top low b16 cs) (pos n)
   signed-fits (signed.Minus n) = some-fits (signedNumeral base top low cs) (laws.signed base top low b16 cs) (neg n)
@@ -140,72 +134,29 @@ ucs2-to-unicode-one code r s f g = said-bound r s (ucs2-to-unicode-fits code r .
 
 -- ---- bounds
 
--- what is taken off are `0x`s
-taken-off : (cs : List ℕ) → (k : ℕ) × (cs ≡ zeroXs k ++ strip0x cs)
-taken-off [] = (0, refl)
-taken-off (c ∷ []) = (0, refl)
-taken-off (c ∷ d ∷ cs) = go (eqb c digit0) (eqb d letterX) refl refl (taken-off cs)
-  where
-    go : (x y : Bool) → eqb c digit0 ≡ x → eqb d letterX ≡ y → (k : ℕ) × (cs ≡ zeroXs k ++ strip0x cs)
-        → (k : ℕ) × (c ∷ d ∷ cs ≡ zeroXs k ++ cond (x && y) (strip0x cs) (c ∷ d ∷ cs))
-    go true true e f (k, h) =
-        let z : c ≡ digit0 = eqb-true c digit0 e in
-        let x : d ≡ letterX = eqb-true d letterX f in
-        (suc k, cc)
-    go true false e f (k, h) = (0, refl)
-    go false y e f (k, h) = (0, refl)
-
--- where there is no `x` there is nothing to take off
-kept : (cs : List ℕ) → T (without letterX cs) → strip0x cs ≡ cs
-kept [] t = refl
-kept (c ∷ []) t = refl
-kept (c ∷ d ∷ cs) t =
-    let h = and-yes (not (eqb c letterX)) (without letterX (d ∷ cs)) t in
-    strip-off₂ c d cs (T→false (eqb d letterX) (and-yes (not (eqb d letterX)) (without letterX cs) (h .1) .0))
-
-all-off : (k : ℕ) (cs : List ℕ) → strip0x cs ≡ cs → strip0x (zeroXs k ++ cs) ≡ cs
-all-off zero cs e = e
-all-off (suc k) cs e = all-off k cs e
-
-le16 : 16 ≤ 16
-le16 = omega arith
-
-pub hex-code : (cs : List ℕ) (code : ℕ) → (numeral 16 maxU16 (strip0x cs) ≡ some code) ↔ HexCode cs code
-hex-code cs code = (there, back)
-  where
-    there : numeral 16 maxU16 (strip0x cs) ≡ some code → HexCode cs code
-    there e =
-        let s = taken-off cs in
-        record { times = s .0; numeral = strip0x cs; whole = s .1; number = numeral-sound 16 maxU16 (strip0x cs) code e }
-
-    back : HexCode cs code → numeral 16 maxU16 (strip0x cs) ≡ some code
-    back h =
-        let q : ℕ → Bool = λ c. not (eqb c letterX) in
-        let t = numeral-chars 16 maxU16 le16 q tt (digit-apart 16 letterX le16 (unfold isDigit in refl)) (h .number) in
-        let k = kept (h .numeral) (full-all q (h .numeral) t) in
-        let e : strip0x cs ≡ h .numeral = ap strip0x (h .whole) ∙ all-off (h .times) (h .numeral) k in
-        ap (numeral 16 maxU16) e ∙ numeral-read 16 maxU16 le16 (h .number)
+pub hex-code : (cs : List ℕ) (code : ℕ) → (numeral hexadecimal maxU16 (strip0x cs) ≡ some code) ↔ Hex16 cs code
+hex-code cs code = (hex-found cs code, hex-read)
 
 module _ (cs : List ℕ) where
-  of-code : (code : ℕ) → HexCode cs code → boundOf cs ≡ checkedBound (some code)
+  of-code : (code : ℕ) → Hex16 cs code → boundOf cs ≡ checkedBound (some code)
   unfolding boundOf
   of-code code h = ap checkedBound (hex-code cs code .1 h)
 
-  of-none : ((code : ℕ) → HexCode cs code → ⊥) → boundOf cs ≡ noBound boundUnreadable
+  of-none : ((code : ℕ) → Hex16 cs code → ⊥) → boundOf cs ≡ noBound boundUnreadable
   unfolding boundOf checkedBound
-  of-none never = ap checkedBound (sym (none-fits (numeral 16 maxU16 (strip0x cs)) (hex-code cs) .1 never))
+  of-none never = ap checkedBound (sym (none-fits (numeral hexadecimal maxU16 (strip0x cs)) (hex-code cs) .1 never))
 
-  has-code : ((code : ℕ) × HexCode cs code) ⊎ ((code : ℕ) → HexCode cs code → ⊥)
-  has-code = go (numeral 16 maxU16 (strip0x cs)) refl
+  has-code : ((code : ℕ) × Hex16 cs code) ⊎ ((code : ℕ) → Hex16 cs code → ⊥)
+  has-code = go (numeral hexadecimal maxU16 (strip0x cs)) refl
     where
-      go : (o : Option ℕ) → numeral 16 maxU16 (strip0x cs) ≡ o → ((code : ℕ) × HexCode cs code) ⊎ ((code : ℕ) → HexCode cs code → ⊥)
-      go none e = inr (none-fits (numeral 16 maxU16 (strip0x cs)) (hex-code cs) .0 (sym e))
+      go : (o : Option ℕ) → numeral hexadecimal maxU16 (strip0x cs) ≡ o → ((code : ℕ) × Hex16 cs code) ⊎ ((code : ℕ) → Hex16 cs code → ⊥)
+      go none e = inr (none-fits (numeral hexadecimal maxU16 (strip0x cs)) (hex-code cs) .0 (sym e))
       go (some code) e = inl (code, hex-code cs code .0 e)
 
   pub parse-hex-codepoint-fits : (r : Bound) → (saidBound r ≡ boundOf cs) ↔ BoundFits cs r
   parse-hex-codepoint-fits (bound.Code b) = (λ e. there e has-code, back)
     where
-      there : boundIs b ≡ boundOf cs → ((code : ℕ) × HexCode cs code) ⊎ ((code : ℕ) → HexCode cs code → ⊥) → BoundFits cs (bound.Code b)
+      there : boundIs b ≡ boundOf cs → ((code : ℕ) × Hex16 cs code) ⊎ ((code : ℕ) → Hex16 cs code → ⊥) → BoundFits cs (bound.Code b)
       there e (inl (code, h)) =
           let f = ucs2-to-unicode-fits code (bound.Code b) .0 (e ∙ of-code code h) in
           record {
@@ -223,11 +174,11 @@ module _ (cs : List ℕ) where
 
       back : BoundFits cs (bound.Code b) → boundIs b ≡ boundOf cs
       back f =
-          let h : HexCode cs (f .code) = record { times = f .times; numeral = f .numeral; whole = f .whole; number = f .number } in
+          let h : Hex16 cs (f .code) = record { times = f .times; numeral = f .numeral; whole = f .whole; number = f .number } in
           ucs2-to-unicode-fits (f .code) (bound.Code b) .1 (f .noMark, f .noSwap, f .says) ∙ sym (of-code (f .code) h)
   parse-hex-codepoint-fits (bound.NoBound k) = (λ e. there e has-code, back)
     where
-      there : noBound k ≡ boundOf cs → ((code : ℕ) × HexCode cs code) ⊎ ((code : ℕ) → HexCode cs code → ⊥) → BoundFits cs (bound.NoBound k)
+      there : noBound k ≡ boundOf cs → ((code : ℕ) × Hex16 cs code) ⊎ ((code : ℕ) → Hex16 cs code → ⊥) → BoundFits cs (bound.NoBound k)
       there e (inl (code, h)) = let f = ucs2-to-unicode-fits code (bound.NoBound k) .0 (e ∙ of-code code h) in mark code h (f .0) (f .1)
       there e (inr never) = let c : noBound k ≡ noBound boundUnreadable = e ∙ of-none never in unreadable never (cc)
 
@@ -243,26 +194,23 @@ module _ (cs : List ℕ) where
 
 -- ---- u32 and i32
 
-le10 : 10 ≤ 16
-le10 = omega arith
+pub parse-u32-fits : (cs : List ℕ) (r : Number) → (saidNumber r ≡ numeral decimal maxU32 cs) ↔ NumberFits decimal maxU32 cs r
+parse-u32-fits cs = number-fits decimal maxU32 decimal-small cs
 
-pub parse-u32-fits : (cs : List ℕ) (r : Number) → (saidNumber r ≡ numeral 10 maxU32 cs) ↔ NumberFits 10 maxU32 cs r
-parse-u32-fits cs = number-fits 10 maxU32 le10 cs
-
-pub parse-i32-fits : (cs : List ℕ) (r : Signed) → (saidSigned r ≡ signedNumeral 10 maxI32 lowI32 cs) ↔ SignedFits 10 maxI32 lowI32 cs r
-parse-i32-fits cs = signed-fits 10 maxI32 lowI32 le10 cs
+pub parse-i32-fits : (cs : List ℕ) (r : Signed) → (saidSigned r ≡ signedNumeral decimal maxI32 lowI32 cs) ↔ SignedFits decimal maxI32 lowI32 cs r
+parse-i32-fits cs = signed-fits decimal maxI32 lowI32 decimal-small cs
 
 -- two answers that a promise allows coincide
-pub parse-u32-one : (cs : List ℕ) (r s : Number) → NumberFits 10 maxU32 cs r → NumberFits 10 maxU32 cs s → r ≡ s
-parse-u32-one cs = number-one 10 maxU32 le10 cs
+pub parse-u32-one : (cs : List ℕ) (r s : Number) → NumberFits decimal maxU32 cs r → NumberFits decimal maxU32 cs s → r ≡ s
+parse-u32-one cs = number-one decimal maxU32 decimal-small cs
 
-pub parse-i32-one : (cs : List ℕ) (r s : Signed) → SignedFits 10 maxI32 lowI32 cs r → SignedFits 10 maxI32 lowI32 cs s → r ≡ s
-parse-i32-one cs = signed-one 10 maxI32 lowI32 le10 cs
+pub parse-i32-one : (cs : List ℕ) (r s : Signed) → SignedFits decimal maxI32 lowI32 cs r → SignedFits decimal maxI32 lowI32 cs s → r ≡ s
+parse-i32-one cs = signed-one decimal maxI32 lowI32 decimal-small cs
 
 -- accepted exactly when some number fits, and with that one
-pub parse-u32-read : (cs : List ℕ) (r : Number) → NumberFits 10 maxU32 cs r → (n : ℕ) → (r ≡ number.Value n) ↔ Numeral 10 maxU32 cs n
-parse-u32-read cs = number-read 10 maxU32 le10 cs
+pub parse-u32-read : (cs : List ℕ) (r : Number) → NumberFits decimal maxU32 cs r → (n : ℕ) → (r ≡ number.Value n) ↔ Numeral decimal maxU32 cs n
+parse-u32-read cs = number-read decimal maxU32 decimal-small cs
 
-pub parse-i32-read : (cs : List ℕ) (r : Signed) → SignedFits 10 maxI32 lowI32 cs r
-    → (i : Integer) → (saidSigned r ≡ some i) ↔ SignedNumeral 10 maxI32 lowI32 cs i
-parse-i32-read cs = signed-read 10 maxI32 lowI32 le10 cs
+pub parse-i32-read : (cs : List ℕ) (r : Signed) → SignedFits decimal maxI32 lowI32 cs r
+    → (i : Integer) → (saidSigned r ≡ some i) ↔ SignedNumeral decimal maxI32 lowI32 cs i
+parse-i32-read cs = signed-read decimal maxI32 lowI32 decimal-small cs

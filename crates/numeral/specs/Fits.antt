@@ -3,12 +3,12 @@
 use Prim.Native.Nat.{ℕ}
 use mathlib.Core.Path.{_≡_}
 use mathlib.Core.Logic.{_≢_, _⊎_}
-use mathlib.Core.List.{List, _++_}
-use Rattle.paper.specs.Sizes.{maxU16}
+use mathlib.Core.List.{List}
 use Rattle.paper.specs.Refusals.{boundUnreadable, boundMark}
 use Rattle.paper.specs.Numbers.Numeral.{Numeral, Integer, pos, neg, SignedNumeral}
-use Rattle.paper.specs.CharDef.Line.{zeroXs, standsFor}
+use Rattle.paper.specs.CharDef.Line.{standsFor}
 use Rattle.paper.specs.CharDef.Line as line
+use Rattle.paper.specs.CharDef.BadLine.{Hex16}
 use Rattle.numeral.specs.declared.Number.{Number}
 use Rattle.numeral.specs.declared.Number.the-variants as number
 use Rattle.numeral.specs.declared.Signed.{Signed}
@@ -26,13 +26,6 @@ SignedFits base top low cs (signed.Plus n) = SignedNumeral base top low cs (pos 
 SignedFits base top low cs (signed.Minus n) = SignedNumeral base top low cs (neg n)
 SignedFits base top low cs signed.Bad = (i : Integer) → SignedNumeral base top low cs i → ⊥
 
--- "every leading `0x` is taken off, repeatedly; what remains is": a 16-bit hex numeral
-pub record HexCode (cs : List ℕ) (code : ℕ) : Type 0 where
-  pub times : ℕ
-  pub numeral : List ℕ
-  pub whole : cs ≡ zeroXs times ++ numeral
-  pub number : Numeral 16 maxU16 numeral code
-
 abbrev pub Marked : ℕ → Type 0
 Marked code = (code ≡ 0xFEFF) ⊎ (code ≡ 0xFFFE)
 
@@ -43,8 +36,8 @@ CodeFits code (bound.NoBound k) = Marked code × (k ≡ boundMark)
 
 -- why characters are no bound: they are no 16-bit hex number, or one of the two marks
 pub data NoBoundBy (cs : List ℕ) (k : ℕ) : Type 0 where
-  unreadable : ((code : ℕ) → HexCode cs code → ⊥) → k ≡ boundUnreadable → NoBoundBy cs k
-  mark : (code : ℕ) → HexCode cs code → Marked code → k ≡ boundMark → NoBoundBy cs k
+  unreadable : ((code : ℕ) → Hex16 cs code → ⊥) → k ≡ boundUnreadable → NoBoundBy cs k
+  mark : (code : ℕ) → Hex16 cs code → Marked code → k ≡ boundMark → NoBoundBy cs k
 
 -- the bound that the characters say, `0x` in front or not; or why there is none
 abbrev pub BoundFits : List ℕ → Bound → Type 0

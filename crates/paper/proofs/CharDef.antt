@@ -1,3 +1,5 @@
+pub mod Chars
+pub mod Dots
 pub mod Complete
 pub mod Sound
 pub mod Whole

@@ -1,3 +1,4 @@
+pub mod Apart
 pub mod Lists
 pub mod Text
 pub mod CharDef

@@ -1,3 +1,4 @@
 pub mod Facts
+pub mod Pieces
 pub mod Seen
 pub mod Parts

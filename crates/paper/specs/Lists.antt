@@ -4,6 +4,7 @@ use Prim.Native.Nat.{ℕ, zero, suc, _+_}
 use mathlib.Core.Bool.{Bool, true, false, not, cond, _&&_, _||_}
 use mathlib.Core.List.{List, [], _∷_, _++_}
 use lib.Dec.{eqb}
+use lib.ListN.{length}
 
 module _ {ℓ} {A : Type ℓ} where
   abbrev pub empty : List A → Bool
@@ -37,6 +38,11 @@ module _ {ℓ} {A : Type ℓ} where
   abbrev pub joined : List (List A) → List A
   joined [] = []
   joined (l ∷ ls) = l ++ joined ls
+
+  -- where each begins, of lists that stand one behind another from `at`
+  abbrev pub offsetsFrom : ℕ → List (List A) → List ℕ
+  offsetsFrom at [] = []
+  offsetsFrom at (l ∷ ls) = at ∷ offsetsFrom (at + length l) ls
 
   -- `eq x y` stands for equality
   -- the elements that no element before them equals: `before` holds those passed already

@@ -43,6 +43,10 @@ maxFlatRow = 255
 abbrev pub bmpSize : ℕ
 bmpSize = 65536
 
+-- the fields of a category line, name, invoke, group and length; and what every unk.def line has: category, left, right and cost
+abbrev pub lineFields : ℕ
+lineFields = 4
+
 -- numbers: 16 bits of a bound, u32, and i32 from -2,147,483,648 on
 abbrev pub maxU16 : ℕ
 maxU16 = 0xFFFF

@@ -1,21 +1,22 @@
 -- Encodings at the front of bytes: the paper's decoder finds the one that stands there, no two different ones stand at one place, and
 -- what `next_char` promises has one answer.
 -- Assumes nothing.
-use Prim.Native.Nat.{ℕ, zero, suc, _+_, _-_, _/_, _%_, _≤_, _<_, zero-le}
+use Prim.Native.Nat.{ℕ, suc, _+_, _-_, _/_, _≤_, _<_, zero-le}
 use native.Mathlib.Numerals.{add-one}
 use native.Mathlib.Omega.{arith}
 use mathlib.Core.Path.{_≡_, refl, sym, ap, _∙_, subst}
 use mathlib.Core.Logic.{_⊎_, ⊎-elim}
 use mathlib.Core.Bool.{Bool, true, false, cond}
 use mathlib.Core.List.{List, [], _∷_, _++_, append-nil}
-use lib.Dec.{T, leb}
-use lib.ListN.{length, take, drop, getD, length-append, length-take, length-drop, take-append-drop}
+use lib.Dec.{leb}
+use lib.ListN.{length, take, drop, getD, length-append, length-drop, take-append-drop}
 use lib.Seq.{take-append-seam, drop-cons}
 use mir.Facts.{yes-and}
 use borrow.Author.Tests.{le-leb, lt-leb, leb-true, leb-false}
 use Rattle.paper.specs.Text.Scalar.{isScalar, IsScalar, utf8Of, utf8, WellFormed}
-use Rattle.paper.specs.Computed.Decode.{First, bad, good, first, Text, broken, chars, onward, decodeFrom}
-use Rattle.paper.proofs.Text.Code.{enc-1, enc-2, enc-3, enc-4, bad-good, decode-complete, first-taken}
+use Rattle.paper.specs.Computed.Decode.{First, bad, good, first, broken, chars, onward, decodeFrom}
+use Rattle.paper.proofs.Apart.{bad-good}
+use Rattle.paper.proofs.Text.Code.{enc-1, enc-2, enc-3, enc-4, decode-complete, first-taken}
 use Rattle.paper.proofs.Text.Prefix.{first-shapes, prefix-longest, chars-formed}
 use Rattle.text.specs.declared.Scalar.{Scalar}
 use denote.Enum.Declared.{tagOf}

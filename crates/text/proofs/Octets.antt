@@ -12,7 +12,7 @@ use lib.Seq.{drop-cons}
 use mir.Facts.{and-yes, leb-yes}
 use borrow.Author.Tests.{le-leb, lt-leb, leb-true, leb-false, eq-eqb, ne-eqb}
 use Rattle.paper.specs.Text.Scalar.{between, In}
-use Rattle.paper.specs.Computed.Decode.{First, bad, good, lowest, highest, isTail, two, three, four, first}
+use Rattle.paper.specs.Computed.Decode.{bad, good, lowest, highest, isTail, two, three, four, first}
 use Rattle.paper.proofs.Lists.Facts.{below, from-below, true→T}
 use Rattle.text.specs.Classes.{tail, lead2, lead3, lead4, leadE0, leadED, leadF0, leadF4, classOf}
 use Rattle.text.specs.Answers.{Second}

@@ -3,16 +3,16 @@
 use Prim.Native.Nat.{ℕ, suc, _+_, _-_, _≤_, _<_}
 use native.Mathlib.Nat.{add-zero}
 use native.Mathlib.Omega.{arith}
-use mathlib.Core.Path.{_≡_, refl, sym, ap, _∙_, subst}
+use mathlib.Core.Path.{_≡_, refl, ap, _∙_, subst}
 use mathlib.Core.Bool.{Bool, true, false, cond, _&&_, _||_}
 use mathlib.Core.List.{List, [], _∷_, _++_}
 use lib.Dec.{T, leb}
 use lib.ListN.{length, drop, getD, drop-of-length-le}
 use lib.Seq.{drop-cons, getD-drop}
-use borrow.Author.Tests.{leb-true, lt-leb, le-leb}
+use borrow.Author.Tests.{leb-true}
 use Rattle.paper.specs.Lists.{any}
 use Rattle.paper.specs.Text.Scalar.{between, In, Tail, IsScalar, utf8Of, whites, isWhite}
-use Rattle.paper.specs.Computed.Decode.{First, bad, good, first}
+use Rattle.paper.specs.Computed.Decode.{First, bad, good}
 use Rattle.paper.proofs.Lists.Facts.{T→true, below, from-below}
 use Rattle.paper.proofs.Text.Code.{dec-1}
 use Rattle.text.specs.declared.Scalar.{Scalar}

@@ -8,14 +8,17 @@ use mathlib.Core.List.{List, []}
 use lib.Dec.{ltb}
 use lib.ListN.{length}
 use mir.Facts.{ltb-no, no-ltb}
+use Rattle.paper.specs.Sizes.{maxTextBytes}
+use Rattle.paper.specs.Refusals.{textLong}
 use Rattle.paper.specs.Lists.{cut}
 use Rattle.paper.specs.CharDef.Reading.{Reading, readingOf, nameBytes, references, Within, Fits, isLF, accepted, refused}
 use Rattle.paper.specs.Computed.Decode.{Text, broken, chars, decode}
 use Rattle.paper.specs.Computed.ReadText.{readLines, nothingRead, readChars, readText}
-use Rattle.paper.proofs.Lists.Facts.{T→false}
-use Rattle.paper.proofs.CharDef.Sound.{false→T, cut-pieces}
+use Rattle.paper.proofs.Apart.{refused-accepted}
+use Rattle.paper.proofs.Lists.Facts.{T→false, false→T}
+use Rattle.paper.proofs.Lists.Pieces.{cut-pieces}
 use Rattle.paper.proofs.Text.Code.{decode-complete, decode-sound}
-use Rattle.paper.proofs.CharDef.Whole.{lines-sound, lines-complete, cut-joined, pieces-joined, refused-accepted}
+use Rattle.paper.proofs.CharDef.Whole.{lines-sound, lines-complete, cut-joined, pieces-joined}
 
 nothing-is : nothingRead ≡ readingOf []
 unfolding nothingRead readingOf
@@ -27,9 +30,9 @@ nothing-within = record { categories-fit = zero-le; names-fit = zero-le; definit
 
 pub accepted-fits : (bytes : List ℕ) (r : Reading) → readText bytes ≡ accepted r → Fits bytes r
 unfolding readText
-accepted-fits bytes r h = size-case (ltb 65536 (length bytes)) refl h
+accepted-fits bytes r h = size-case (ltb maxTextBytes (length bytes)) refl h
   where
-    text-case : length bytes ≤ 65536 → (o : Text) → decode bytes ≡ o → readChars o ≡ accepted r → Fits bytes r
+    text-case : length bytes ≤ maxTextBytes → (o : Text) → decode bytes ≡ o → readChars o ≡ accepted r → Fits bytes r
     text-case short (broken at) e h = refused-accepted h
     text-case short (chars cs) e h =
         let (sc, w) = decode-sound bytes 0 0 cs e in
@@ -50,7 +53,7 @@ accepted-fits bytes r h = size-case (ltb 65536 (length bytes)) refl h
           within = within;
         }
 
-    size-case : (b : Bool) → ltb 65536 (length bytes) ≡ b → cond b (refused 2 0) (readChars (decode bytes)) ≡ accepted r → Fits bytes r
+    size-case : (b : Bool) → ltb maxTextBytes (length bytes) ≡ b → cond b (refused textLong 0) (readChars (decode bytes)) ≡ accepted r → Fits bytes r
     size-case true e h = refused-accepted h
     size-case false e h = text-case (ltb-no (false→T _ e)) (decode bytes) refl h
 
@@ -59,7 +62,7 @@ unfolding readText
 fits-accepted bytes r f =
     let d : decode bytes ≡ chars (f .chars) = ap decode (f .encoded) ∙ decode-complete (f .chars) 0 (f .scalars) in
     let c : cut isLF (f .chars) ≡ f .texts = ap (cut isLF) (f .split) ∙ cut-joined (f .texts) (f .some-line) (f .ended) in
-    rw (T→false (ltb 65536 (length bytes)) (no-ltb (f .short)), d, c)
+    rw (T→false (ltb maxTextBytes (length bytes)) (no-ltb (f .short)), d, c)
     (ap (readLines 1 (f .texts)) nothing-is
     ∙ lines-complete 1 [] (f .each) (subst Within (f .says) (f .within))
     ∙ ap accepted (sym (f .says)))

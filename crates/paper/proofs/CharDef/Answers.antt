@@ -1,109 +1,29 @@
 -- What each answer to a char.def means: too long, not well-formed, a first bad line, or a reading that fits. Each refusal is given exactly
 -- where the relation holds, and one number and place hold at most.
 -- Assumes nothing.
-use Prim.Native.Nat.{ℕ, zero, suc, _+_, _<_, _≤_, zero-le}
-use native.Mathlib.Nat.{le-refl}
+use Prim.Native.Nat.{ℕ, _<_, _≤_}
 use native.Mathlib.Omega.{arith}
 use mathlib.Core.Path.{_≡_, refl, sym, ap, _∙_, subst}
 use mathlib.Core.Logic.{_↔_}
 use mathlib.Core.Bool.{Bool, true, false, cond}
-use mathlib.Core.List.{List, [], _∷_}
-use lib.Dec.{T, ltb}
-use lib.ListN.{length, take, drop, take-append-drop}
-use lib.Seq.{take-length, drop-nil}
+use mathlib.Core.List.{List}
+use lib.Dec.{ltb}
+use lib.ListN.{length}
 use borrow.Author.Tests.{ltb-true, ltb-false, lt-ltb, le-ltb}
 use Rattle.paper.specs.Sizes.{maxTextBytes}
 use Rattle.paper.specs.Refusals.{textLong, textIllFormed, rangeParts}
-use Rattle.paper.specs.Lists.{all, cut}
-use Rattle.paper.specs.Text.Scalar.{isScalar, utf8, WellFormed, nothing, LongestPrefix}
+use Rattle.paper.specs.Lists.{cut}
+use Rattle.paper.specs.Text.Scalar.{WellFormed, LongestPrefix}
 use Rattle.paper.specs.CharDef.Bad.{FirstBad, BadText, too-long, ill-formed, Answered, fitting, refusing}
 use Rattle.paper.specs.CharDef.Reading.{isLF, Answer, accepted, refused}
-use Rattle.paper.specs.Computed.Decode.{First, bad, good, first, Text, broken, chars, consText, onward, decodeFrom, decode}
+use Rattle.paper.specs.Computed.Decode.{bad, Text, broken, chars, decode}
 use Rattle.paper.specs.Computed.ReadText.{readLines, nothingRead, readChars, readText}
-use Rattle.paper.proofs.CharDef.Sound.{zero-one}
-use Rattle.paper.proofs.Text.Code.{decode-complete, decode-sound, broken-chars}
-use Rattle.paper.proofs.Text.Prefix.{first-shapes, chars-broken, unbroken, prefix-fits, prefix-longest}
+use Rattle.paper.proofs.Apart.{zero-one}
+use Rattle.paper.proofs.Text.Code.{reads, well-formed, ill-read}
+use Rattle.paper.proofs.Text.Prefix.{prefix-of, longest-one}
 use Rattle.paper.proofs.CharDef.Accepts.{accepted-fits, fits-accepted}
 use Rattle.paper.proofs.CharDef.BadLine.{bad-line, bad-number}
 use Rattle.paper.proofs.CharDef.FirstBad.{first-bad, lines-stop, bad-refused}
-
--- ---- well-formed text
-
-broken-below : (s : List ℕ) (at skip p : ℕ) → decodeFrom at skip s ≡ broken p → p < at + length s
-unfolding decodeFrom
-broken-below [] at skip p h = chars-broken h
-broken-below (a ∷ s) at (suc skip) p h = let k = broken-below s (suc at) skip p h in omega arith
-broken-below (a ∷ s) at zero p h = go (first a s) h (λ extra. broken-below s (suc at) extra p)
-  where
-    go : (f : First) → onward at f (λ extra. decodeFrom (suc at) extra s) ≡ broken p
-        → ((extra : ℕ) → decodeFrom (suc at) extra s ≡ broken p → p < suc at + length s) → p < at + suc (length s)
-    go bad h ih = let e : at ≡ p = cc in omega arith
-    go (good c extra) h ih = let k = ih extra (unbroken c (decodeFrom (suc at) extra s) p h) in omega arith
-
-decoded-well : (s : List ℕ) (at skip : ℕ) (cs : List ℕ) → decodeFrom at skip s ≡ chars cs → WellFormed (drop skip s)
-unfolding decodeFrom
-decoded-well [] at skip cs h = rw (drop-nil {A = ℕ} skip) nothing
-decoded-well (a ∷ s) at (suc skip) cs h = decoded-well s (suc at) skip cs h
-decoded-well (a ∷ s) at zero cs h = first-case (first a s) refl h (λ extra cs′. decoded-well s (suc at) extra cs′)
-  where
-    rest-case : (c extra : ℕ) → first a s ≡ good c extra → (o : Text) → decodeFrom (suc at) extra s ≡ o → consText c o ≡ chars cs
-        → ((cs′ : List ℕ) → decodeFrom (suc at) extra s ≡ chars cs′ → WellFormed (drop extra s)) → WellFormed (a ∷ s)
-    rest-case c extra ef (broken p) eo h ih = broken-chars h
-    rest-case c extra ef (chars cs′) eo h ih =
-        subst (λ x. WellFormed (a ∷ x)) (take-append-drop extra s) (first-shapes a s c extra ef .glue (drop extra s) (ih cs′ eo))
-
-    first-case : (f : First) → first a s ≡ f → onward at f (λ extra. decodeFrom (suc at) extra s) ≡ chars cs
-        → ((extra : ℕ) (cs′ : List ℕ) → decodeFrom (suc at) extra s ≡ chars cs′ → WellFormed (drop extra s)) → WellFormed (a ∷ s)
-    first-case bad e h ih = broken-chars h
-    first-case (good c extra) e h ih = rest-case c extra e (decodeFrom (suc at) extra s) refl h (ih extra)
-
--- a text is well-formed exactly where it is read as characters
-well-read : (s : List ℕ) → WellFormed s → (cs : List ℕ) × (decode s ≡ chars cs)
-unfolding decode
-well-read s w = go (decode s) refl
-  where
-    never : (p : ℕ) → 0 + length s ≤ p → p < 0 + length s → ⊥
-    never p a b = omega arith
-
-    go : (o : Text) → decode s ≡ o → (cs : List ℕ) × (decode s ≡ chars cs)
-    go (chars cs) e = (cs, e)
-    go (broken p) e =
-        absurd (never p (prefix-longest s 0 0 p e (length s) zero-le (le-refl (length s)) (rw (take-length s) w)) (broken-below s 0 0 p e))
-
-pub well-formed : (s : List ℕ) → WellFormed s ↔ ((cs : List ℕ) × (decode s ≡ chars cs))
-unfolding decode
-well-formed s = (well-read s, λ (cs, e). decoded-well s 0 0 cs e)
-
--- and where it is the UTF-8 of scalar values
-pub well-encoded : (s : List ℕ) → WellFormed s ↔ ((cs : List ℕ) × (s ≡ utf8 cs) × T (all isScalar cs))
-unfolding decode
-well-encoded s = (to, λ (cs, e, a). decoded-well s 0 0 cs (ap decode e ∙ decode-complete cs 0 a))
-  where
-    to : WellFormed s → (cs : List ℕ) × (s ≡ utf8 cs) × T (all isScalar cs)
-    to w =
-        let (cs, e) = well-read s w in
-        let (a, i) = decode-sound s 0 0 cs e in
-        (cs, i, a)
-
-pub ill-read : (s : List ℕ) (p : ℕ) → decode s ≡ broken p → WellFormed s → ⊥
-ill-read s p e w = let (cs, i) = well-read s w in broken-chars (sym e ∙ i)
-
-pub prefix-of : (bytes : List ℕ) (p : ℕ) → decode bytes ≡ broken p → LongestPrefix p bytes
-unfolding decode
-prefix-of bytes p e =
-    let (n, i, k, l, w) = prefix-fits bytes 0 0 p e in
-    let j : n ≡ p = omega arith in
-    let b = broken-below bytes 0 0 p e in
-    record { inside = omega arith; fits = subst (λ m. WellFormed (take m bytes)) j w; longest = λ m h v. trim m (prefix-longest bytes 0 0 p e m zero-le h v) }
-  where
-    trim : (m : ℕ) → 0 + m ≤ p → m ≤ p
-    trim m h = omega arith
-
-pub prefix-one : (bytes : List ℕ) (p q : ℕ) → LongestPrefix p bytes → LongestPrefix q bytes → p ≡ q
-prefix-one bytes p q a b =
-    let h : p ≤ q = b .longest p (a .inside) (a .fits) in
-    let i : q ≤ p = a .longest q (b .inside) (b .fits) in
-    omega arith
 
 -- ---- every text has one of these answers, and only one
 
@@ -116,7 +36,7 @@ answered bytes = size-case (ltb maxTextBytes (length bytes)) refl refl
     lines-case short cs e (refused n place) el h =
         let s = lines-stop (cut isLF cs) 1 nothingRead n place el in
         let (low, high) = bad-number (bad-line (s .state) (s .bad) n .0 (s .stops)) in
-        refusing (BadText.bad-line short (well-formed bytes .1 (cs, e)) (first-bad bytes n place h low))
+        refusing (BadText.bad-line short (reads bytes .1 (cs, e)) (first-bad bytes n place h low))
 
     text-case : length bytes ≤ maxTextBytes → (o : Text) → decode bytes ≡ o → readText bytes ≡ readChars o → Answered bytes (readChars o)
     text-case short (broken p) e h = refusing (ill-formed short (ill-read bytes p e) (prefix-of bytes p e))
@@ -134,10 +54,10 @@ bad-text-read {bytes = bytes} (ill-formed {p = p} short ill f) =
     rw (le-ltb maxTextBytes (length bytes) short) (go (decode bytes) refl)
   where
     go : (o : Text) → decode bytes ≡ o → readChars o ≡ refused textIllFormed p
-    go (broken q) e = ap (refused textIllFormed) (prefix-one bytes q p (prefix-of bytes q e) f)
-    go (chars cs) e = absurd (ill (well-formed bytes .1 (cs, e)))
+    go (broken q) e = ap (refused textIllFormed) (longest-one bytes q p (prefix-of bytes q e) f)
+    go (chars cs) e = absurd (ill (reads bytes .1 (cs, e)))
 bad-text-read {bytes = bytes} (BadText.bad-line short w f) =
-    let (cs, e, sc) = well-encoded bytes .0 w in
+    let (cs, e, sc) = well-formed bytes .0 w in
     bad-refused short cs e sc f
 
 pub answered-one : (bytes : List ℕ) (a : Answer) → Answered bytes a → readText bytes ≡ a

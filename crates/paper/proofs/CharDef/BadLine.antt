@@ -8,27 +8,29 @@ use mathlib.Core.Logic.{_↔_, _≢_, _⊎_, inl, inr}
 use mathlib.Core.Bool.{Bool, true, false, not, cond}
 use mathlib.Core.Option.{Option, none, some}
 use mathlib.Core.List.{List, [], _∷_, _++_}
-use lib.Dec.{T, lit≤}
+use lib.Dec.{T}
 use lib.ListN.{length}
-use Rattle.paper.specs.Sizes.{maxU32, maxCategoryLines, maxRanges}
+use Rattle.paper.specs.Sizes.{maxU32, maxCategoryLines, maxRanges, lineFields}
 use Rattle.paper.specs.Refusals.{rangeParts, boundUnreadable, boundMark, categoryFields, categoryNumber, rangesFull, categoryLinesFull, categoriesFull, nameBytesFull}
-use Rattle.paper.specs.Lists.{words}
+use Rattle.paper.specs.Lists.{words, empty}
 use Rattle.paper.specs.Text.Scalar.{isWhite, isSep, dot}
+use Rattle.paper.specs.Numbers.Numeral.{decimal, NoU32}
 use Rattle.paper.specs.CharDef.Line.{Line, LineFits, begins0x}
 use Rattle.paper.specs.CharDef.Reading.{Reading, readingOf, Within, EachFits, done, next, refused}
-use Rattle.paper.specs.CharDef.BadLine.{Body, Fields, last-field, more-fields, RangeFields, CategoryFields, Parts, one-part, two-parts, NoU32, neededFields, Misfit, many-parts, lower-bad, upper-bad, not-four, no-number, BadBound, no-hex, mark, swapped, NoRoom, too-many, too-long, PastLimit, range-over, references-over, range-name, line-over, category-name, BadLine, misfit, past-limit}
+use Rattle.paper.specs.CharDef.BadLine.{Body, Fields, last-field, more-fields, RangeFields, CategoryFields, Parts, one-part, two-parts, Misfit, many-parts, lower-bad, upper-bad, not-four, no-number, BadBound, no-hex, mark, swapped, NoRoom, too-many, too-many-bytes, PastLimit, range-over, references-over, range-name, line-over, category-name, BadLine, misfit, past-limit}
 use Rattle.paper.specs.Computed.Numeral.{numeral}
 use Rattle.paper.specs.Computed.ReadText.{Found, found, wrong, BoundFound, parts, fromBounds, fromParts, rangeOf, fromNumbers, categoryOf, body, bodyLine, lineOf, Step, go-on, stop, enter, enterFound, verdict, readLines}
-use Rattle.paper.proofs.Lists.Facts.{T→true, T→false, true→T}
-use Rattle.paper.proofs.CharDef.Sound.{false→T, zero-one, numeral-sound, line-sound}
-use Rattle.paper.proofs.CharDef.Complete.{numeral-read, line-complete}
-use Rattle.paper.proofs.CharDef.Whole.{lines-sound, lines-complete, refused-accepted}
-use Rattle.paper.proofs.CharDef.Bodies.{sep-white, has-body, body-is, fields-words, has-fields}
-use Rattle.paper.proofs.CharDef.Bounds.{Cuts, uncut, cut-at, parts-cuts, none-some, many-wrong, parts-bounds, Judged, good, bad, judged, bad-read, good-read}
+use Rattle.paper.proofs.Apart.{zero-one, none-some, wrong-found, refused-accepted}
+use Rattle.paper.proofs.Lists.Facts.{T→true, T→false, true→T, false→T}
+use Rattle.paper.proofs.Numbers.Read.{numeral-sound, numeral-read, decimal-small}
+use Rattle.paper.proofs.CharDef.Chars.{sep-white}
+use Rattle.paper.proofs.CharDef.Dots.{Cuts, uncut, cut-at, parts-cuts}
+use Rattle.paper.proofs.CharDef.Sound.{line-sound}
+use Rattle.paper.proofs.CharDef.Complete.{line-complete, bound-read, range-body, category-body}
+use Rattle.paper.proofs.CharDef.Whole.{lines-sound, lines-complete}
+use Rattle.paper.proofs.CharDef.Bodies.{has-body, body-is, fields-words, has-fields}
+use Rattle.paper.proofs.CharDef.Bounds.{many-wrong, parts-bounds, Judged, good, bad, judged, bad-read}
 use Rattle.paper.proofs.CharDef.Limits.{enter-past, past-enter}
-
-found-wrong {ℓ} : {X : Type ℓ} {l : Line} {n : ℕ} → found l ≡ wrong n → X
-found-wrong e = zero-one (cc)
 
 -- ---- range lines
 
@@ -37,7 +39,7 @@ module _ {cs bounds : List ℕ} {names : List (List ℕ)} (fs : RangeFields cs b
       → fromBounds x y names ≡ wrong n → Misfit cs n
   bounds-misfit lower upper p (bad {n = m} b) j n h = let e : m ≡ n = cc in subst (Misfit cs) e (lower-bad fs p b)
   bounds-misfit lower upper p (good g) (bad {n = m} b) n h = let e : m ≡ n = cc in subst (Misfit cs) e (upper-bad fs p g b)
-  bounds-misfit lower upper p (good g) (good i) n h = found-wrong h
+  bounds-misfit lower upper p (good g) (good i) n h = wrong-found (sym h)
 
   many : (a b c : List ℕ) → bounds ≡ a ++ (dot ∷ dot ∷ (b ++ (dot ∷ dot ∷ c))) → (n : ℕ) → wrong rangeParts ≡ wrong n → Misfit cs n
   many a b c e n h =
@@ -61,10 +63,10 @@ range-misfit {core = core} b z (more-fields {field = f} gap rest e a g q) n h =
 
 -- ---- category lines
 
-no-u32 : (f : List ℕ) → numeral 10 maxU32 f ≡ none → NoU32 f
-no-u32 f e n s = none-some (sym e ∙ numeral-read 10 maxU32 (lit≤ tt) s)
+no-u32 : (f : List ℕ) → numeral decimal maxU32 f ≡ none → NoU32 f
+no-u32 f e n s = none-some (sym e ∙ numeral-read decimal maxU32 decimal-small s)
 
-count : {cs : List ℕ} (fields : List (List ℕ)) → CategoryFields cs fields → length fields ≢ neededFields → (n : ℕ) → wrong categoryFields ≡ wrong n → Misfit cs n
+count : {cs : List ℕ} (fields : List (List ℕ)) → CategoryFields cs fields → length fields ≢ lineFields → (n : ℕ) → wrong categoryFields ≡ wrong n → Misfit cs n
 count {cs} fields fs ne n h = let e : categoryFields ≡ n = cc in subst (Misfit cs) e (not-four fs ne)
 
 category-misfit : {cs : List ℕ} (fields : List (List ℕ)) → CategoryFields cs fields → (n : ℕ) → categoryOf fields ≡ wrong n → Misfit cs n
@@ -74,17 +76,17 @@ category-misfit {cs} (a ∷ []) fs n h = count (a ∷ []) fs (omega arith) n h
 category-misfit {cs} (a ∷ b ∷ []) fs n h = count (a ∷ b ∷ []) fs (omega arith) n h
 category-misfit {cs} (a ∷ b ∷ c ∷ []) fs n h = count (a ∷ b ∷ c ∷ []) fs (omega arith) n h
 category-misfit {cs} (a ∷ b ∷ c ∷ d ∷ []) fs n h =
-    go (numeral 10 maxU32 b) (numeral 10 maxU32 c) (numeral 10 maxU32 d) refl refl refl h
+    go (numeral decimal maxU32 b) (numeral decimal maxU32 c) (numeral decimal maxU32 d) refl refl refl h
   where
     number : NoU32 b ⊎ (NoU32 c ⊎ NoU32 d) → wrong categoryNumber ≡ wrong n → Misfit cs n
     number u h = let e : categoryNumber ≡ n = cc in subst (Misfit cs) e (no-number fs u)
 
-    go : (x y z : Option ℕ) → numeral 10 maxU32 b ≡ x → numeral 10 maxU32 c ≡ y → numeral 10 maxU32 d ≡ z
+    go : (x y z : Option ℕ) → numeral decimal maxU32 b ≡ x → numeral decimal maxU32 c ≡ y → numeral decimal maxU32 d ≡ z
         → fromNumbers a x y z ≡ wrong n → Misfit cs n
     go none y z ex ey ez h = number (inl (no-u32 b ex)) h
     go (some i) none z ex ey ez h = number (inr (inl (no-u32 c ey))) h
     go (some i) (some g) none ex ey ez h = number (inr (inr (no-u32 d ez))) h
-    go (some i) (some g) (some l) ex ey ez h = found-wrong h
+    go (some i) (some g) (some l) ex ey ez h = wrong-found (sym h)
 category-misfit {cs} (a ∷ b ∷ c ∷ d ∷ e ∷ r) fs n h = count (a ∷ b ∷ c ∷ d ∷ e ∷ r) fs (omega arith) n h
 
 -- ---- a line that fits nothing
@@ -94,7 +96,7 @@ unfolding lineOf bodyLine
 line-wrong cs n h = let (core, b) = has-body cs in go core b (ap bodyLine (sym (body-is cs core b)) ∙ h)
   where
     go : (core : List ℕ) → Body cs core → bodyLine core ≡ wrong n → Misfit cs n
-    go [] b h = found-wrong h
+    go [] b h = wrong-found (sym h)
     go (c ∷ core) b h = kind (begins0x (c ∷ core)) refl h
       where
         kind : (z : Bool) → begins0x (c ∷ core) ≡ z → cond z (rangeOf (words isWhite (c ∷ core))) (categoryOf (words isSep (c ∷ core))) ≡ wrong n → Misfit cs n
@@ -110,21 +112,17 @@ no-fields p (more-fields {field = c ∷ f} gap rest e a g q) = zero-one (cc)
 
 range-line : {cs bounds : List ℕ} {names : List (List ℕ)} → RangeFields cs bounds names → lineOf cs ≡ fromParts (parts bounds) names
 unfolding lineOf rangeOf
-range-line {cs} fs = ap bodyLine (body-is cs (fs .body) (fs .isBody)) ∙ go (fs .body) (fs .opens0x) ∙ ap rangeOf (fields-words isWhite (fs .split))
-  where
-    go : (s : List ℕ) → T (begins0x s) → bodyLine s ≡ rangeOf (words isWhite s)
-    go [] z = absurd z
-    go (c ∷ s) z = rw (T→true (begins0x (c ∷ s)) z)
+range-line {cs} fs = ap bodyLine (body-is cs (fs .body) (fs .isBody)) ∙ range-body (fs .body) (T→true _ (fs .opens0x)) ∙ ap rangeOf (fields-words isWhite (fs .split))
 
 category-line : {cs : List ℕ} {fields : List (List ℕ)} → CategoryFields cs fields → lineOf cs ≡ categoryOf fields
 unfolding lineOf
-category-line {cs} fs = ap bodyLine (body-is cs (fs .body) (fs .isBody)) ∙ go (fs .body) (fs .split) (fs .opensNo0x) ∙ ap categoryOf (fields-words isSep (fs .split))
+category-line {cs} {fields} fs = ap bodyLine (body-is cs (fs .body) (fs .isBody)) ∙ category-body (fs .body) (not-empty (fs .split)) (T→false _ (fs .opensNo0x)) ∙ ap categoryOf (fields-words isSep (fs .split))
   where
-    go : (s : List ℕ) {fields : List (List ℕ)} → Fields isSep s fields → T (not (begins0x s)) → bodyLine s ≡ categoryOf (words isSep s)
-    go [] q z = no-fields isSep q
-    go (c ∷ s) q z = rw (T→false (begins0x (c ∷ s)) z)
+    not-empty : {s : List ℕ} → Fields isSep s fields → T (not (empty s))
+    not-empty {s = []} q = no-fields isSep q
+    not-empty {s = c ∷ s} q = tt
 
-count-wrong : (fields : List (List ℕ)) → length fields ≢ neededFields → categoryOf fields ≡ wrong categoryFields
+count-wrong : (fields : List (List ℕ)) → length fields ≢ lineFields → categoryOf fields ≡ wrong categoryFields
 unfolding categoryOf
 count-wrong [] ne = refl
 count-wrong (a ∷ []) ne = refl
@@ -135,12 +133,12 @@ count-wrong (a ∷ b ∷ c ∷ d ∷ e ∷ r) ne = refl
 
 number-wrong : (a b c d : List ℕ) → NoU32 b ⊎ (NoU32 c ⊎ NoU32 d) → categoryOf (a ∷ b ∷ c ∷ d ∷ []) ≡ wrong categoryNumber
 unfolding categoryOf
-number-wrong a b c d u = go (numeral 10 maxU32 b) (numeral 10 maxU32 c) (numeral 10 maxU32 d) refl refl refl u
+number-wrong a b c d u = go (numeral decimal maxU32 b) (numeral decimal maxU32 c) (numeral decimal maxU32 d) refl refl refl u
   where
-    never : {X : Type 0} (f : List ℕ) (k : ℕ) → numeral 10 maxU32 f ≡ some k → NoU32 f → X
-    never f k e no-one = absurd (no-one k (numeral-sound 10 maxU32 f k e))
+    never : {X : Type 0} (f : List ℕ) (k : ℕ) → numeral decimal maxU32 f ≡ some k → NoU32 f → X
+    never f k e no-one = absurd (no-one k (numeral-sound decimal maxU32 f k e))
 
-    go : (x y z : Option ℕ) → numeral 10 maxU32 b ≡ x → numeral 10 maxU32 c ≡ y → numeral 10 maxU32 d ≡ z
+    go : (x y z : Option ℕ) → numeral decimal maxU32 b ≡ x → numeral decimal maxU32 c ≡ y → numeral decimal maxU32 d ≡ z
         → NoU32 b ⊎ (NoU32 c ⊎ NoU32 d) → fromNumbers a x y z ≡ wrong categoryNumber
     go none y z ex ey ez u = refl
     go (some i) none z ex ey ez u = refl
@@ -152,7 +150,7 @@ number-wrong a b c d u = go (numeral 10 maxU32 b) (numeral 10 maxU32 c) (numeral
 misfit-wrong : {cs : List ℕ} {n : ℕ} → Misfit cs n → lineOf cs ≡ wrong n
 misfit-wrong (many-parts {bounds = bounds} {names = names} fs t) = range-line fs ∙ many-wrong names t (parts-cuts bounds)
 misfit-wrong (lower-bad {names = names} fs p b) = range-line fs ∙ parts-bounds names p ∙ rw (bad-read b)
-misfit-wrong (upper-bad {names = names} fs p g b) = range-line fs ∙ parts-bounds names p ∙ rw (good-read g, bad-read b)
+misfit-wrong (upper-bad {names = names} fs p g b) = range-line fs ∙ parts-bounds names p ∙ rw (bound-read g, bad-read b)
 misfit-wrong (not-four {fields = fields} fs ne) = category-line fs ∙ count-wrong fields ne
 misfit-wrong (no-number {name = a} {invoke = b} {group = c} {len = d} fs u) = category-line fs ∙ number-wrong a b c d u
 
@@ -205,7 +203,7 @@ misfit-number (no-number fs u) = omega arith
 
 room-number : {known : List (List ℕ)} {x : List ℕ} {n : ℕ} → NoRoom known x n → (categoriesFull ≤ n) × (n ≤ nameBytesFull)
 room-number (too-many new h) = omega arith
-room-number (too-long new h i) = omega arith
+room-number (too-many-bytes new h i) = omega arith
 
 past-number : {r : Reading} {l : Line} {n : ℕ} → PastLimit r l n → (rangesFull ≤ n) × (n ≤ nameBytesFull)
 past-number (range-over h) = omega arith

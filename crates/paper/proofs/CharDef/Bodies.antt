@@ -3,39 +3,18 @@
 -- Assumes nothing.
 use Prim.Native.Nat.{ℕ}
 use mathlib.Core.Path.{_≡_, refl, sym, ap, _∙_, subst}
-use mathlib.Core.Bool.{Bool, true, false, not, _||_}
+use mathlib.Core.Bool.{Bool, true, false, not}
 use mathlib.Core.List.{List, [], _∷_, _++_, append-assoc, append-nil}
-use lib.Dec.{T, eqb, eqb→eq}
+use lib.Dec.{T}
 use mir.Facts.{and-yes, yes-and, T-not}
 use Rattle.paper.specs.Lists.{all, full, nothingOr, words, until, trimStart, trimEnd}
-use Rattle.paper.specs.Text.Scalar.{isWhite, isSep, hash}
+use Rattle.paper.specs.Text.Scalar.{isWhite}
 use Rattle.paper.specs.CharDef.Line.{isHash}
 use Rattle.paper.specs.CharDef.BadLine.{endsWhite, Body, Fields, last-field, more-fields}
 use Rattle.paper.specs.Computed.ReadText.{body}
-use Rattle.paper.proofs.Lists.Facts.{true→T, apart, all-append, full-all, all-imp, un, until-append, trimStart-append, trimEnd-append, words-word, words-run}
-use Rattle.paper.proofs.CharDef.Sound.{false→T, Spread, run, word, words-spread}
-
--- ---- characters
-
-white-no-hash : (c : ℕ) → T (isWhite c) → T (un isHash c)
-unfolding isWhite
-white-no-hash = apart isWhite hash refl
-
-either {ℓ} : {X : Type ℓ} (a b : Bool) → (T a → X) → (T b → X) → T (a || b) → X
-either true b f g t = f tt
-either false b f g t = g t
-
-pub sep-white : (c : ℕ) → T (isSep c) → T (isWhite c)
-unfolding isSep isWhite
-sep-white c =
-    either (eqb c 0x09 || eqb c 0x0C || eqb c 0x0D) (eqb c 0x20)
-    (either (eqb c 0x09 || eqb c 0x0C) (eqb c 0x0D)
-    (either (eqb c 0x09) (eqb c 0x0C) (is 0x09 tt) (is 0x0C tt))
-    (is 0x0D tt))
-    (is 0x20 tt)
-  where
-    is : (k : ℕ) → T (isWhite k) → T (eqb c k) → T (isWhite c)
-    is k w e = rw (eqb→eq c k e) w
+use Rattle.paper.proofs.Lists.Facts.{true→T, all-append, full-all, all-imp, un, until-append, trimStart-append, trimEnd-append, words-word, words-run, false→T}
+use Rattle.paper.proofs.Lists.Pieces.{Spread, run, word, words-spread, gap-full, full-opens}
+use Rattle.paper.proofs.CharDef.Chars.{white-no-hash}
 
 -- ---- ends
 
@@ -138,22 +117,12 @@ body-is cs (c ∷ core) b =
 -- ---- fields
 
 module _ (p : ℕ → Bool) where
-  full-opens : (s t : List ℕ) → T (full p s) → T (nothingOr p (s ++ t))
-  full-opens [] t a = absurd a
-  full-opens (c ∷ s) t a = and-yes (p c) (all p s) a .0
-
   pub fields-words : {cs : List ℕ} {fields : List (List ℕ)} → Fields p cs fields → words p cs ≡ fields
   fields-words {cs} (last-field f) = ap (words p) (sym (append-nil cs)) ∙ words-word p cs [] f tt
   fields-words (more-fields {field = field} gap rest e f g q) =
       ap (words p) e
-      ∙ words-word p field (gap ++ rest) f (full-opens gap rest g)
+      ∙ words-word p field (gap ++ rest) f (full-opens p gap rest g)
       ∙ ap (λ l. field ∷ l) (words-run p gap rest (full-all p gap g) ∙ fields-words q)
-
-  -- a run before a word, where something ended a field, is not empty
-  run-full : (w f r : List ℕ) → T (nothingOr p (w ++ (f ++ r))) → T (full (un p) f) → T (all p w) → T (full p w)
-  run-full [] [] r g h a = absurd h
-  run-full [] (c ∷ f) r g h a = absurd (T-not (p c) g (and-yes (un p c) (all (un p) f) h .0))
-  run-full (c ∷ w) f r g h a = a
 
   module _ (is-white : (c : ℕ) → T (p c) → T (isWhite c)) where
     closes-right : (s f r : List ℕ) → T (full (un p) f) → T (not (endsWhite (s ++ (f ++ r)))) → T (not (endsWhite (f ++ r)))
@@ -167,7 +136,7 @@ module _ (p : ℕ → Bool) where
         absurd (T-not (endsWhite (c ∷ r)) (ends-run c r (all-imp p isWhite is-white (c ∷ r) a)) (subst (λ x. T (not x)) (ends-append f c r) t))
     field-then f (word {f = g} w r e a m j q) k n t =
         let t′ = subst (λ x. T (not (endsWhite (f ++ x)))) e t in
-        more-fields w (g ++ r) (ap (λ x. f ++ x) e) n (run-full w g r (subst (λ x. T (nothingOr p x)) e k) m a)
+        more-fields w (g ++ r) (ap (λ x. f ++ x) e) n (gap-full p w g r (subst (λ x. T (nothingOr p x)) e k) m a)
         (field-then g q j m (closes-right (f ++ w) g r m (subst (λ x. T (not (endsWhite x))) (sym (append-assoc f w (g ++ r))) t′)))
 
     pub has-fields : (c : ℕ) (s : List ℕ) → T (not (isWhite c)) → T (not (endsWhite (c ∷ s))) → Fields p (c ∷ s) (words p (c ∷ s))

@@ -1,80 +1,28 @@
 -- The first field of a range line: its parts, as the relation has them, are the parts computed, and a bound is bad by the number computed.
 -- The first `..` of a field is before every other, so a field is parted in one way.
 -- Assumes nothing.
-use Prim.Native.Nat.{ℕ, zero, suc, zero-le}
+use Prim.Native.Nat.{ℕ, zero-le}
 use mathlib.Core.Path.{_≡_, refl, sym, ap, _∙_, subst}
-use mathlib.Core.Bool.{Bool, true, false, not, cond, _&&_, _||_}
+use mathlib.Core.Bool.{Bool, true, false, cond, _||_}
 use mathlib.Core.Option.{Option, none, some}
 use mathlib.Core.List.{List, [], _∷_, _++_, append-assoc, append-nil}
-use lib.Dec.{T, eqb, eqb→eq, lit≤}
-use mir.Facts.{and-yes, not-T, T-not}
-use borrow.Author.Tests.{eqb-true, eqb-false, ne-eqb}
+use lib.Dec.{eqb}
+use borrow.Author.Tests.{eqb-true, eqb-false}
 use Rattle.paper.specs.Sizes.{maxU16}
 use Rattle.paper.specs.Refusals.{rangeParts, boundUnreadable, boundMark}
-use Rattle.paper.specs.Lists.{all, push}
-use Rattle.paper.specs.Text.Scalar.{dot, digit0, letterX}
-use Rattle.paper.specs.Numbers.Numeral.{isDigit}
-use Rattle.paper.specs.CharDef.Line.{zeroXs, standsFor, Bound}
+use Rattle.paper.specs.Text.Scalar.{dot, byteOrderMark, swappedMark}
+use Rattle.paper.specs.Numbers.Numeral.{hexadecimal}
+use Rattle.paper.specs.CharDef.Line.{standsFor, Bound}
 use Rattle.paper.specs.CharDef.BadLine.{NoDots, Parts, one-part, two-parts, ThreeParts, Hex16, BadBound, no-hex, mark, swapped}
 use Rattle.paper.specs.Computed.Numeral.{numeral}
 use Rattle.paper.specs.Computed.ReadText.{wrong, BoundFound, boundIs, noBound, strip0x, parts, checkedBound, boundOf, fromBounds, fromParts}
-use Rattle.paper.proofs.Lists.Facts.{T→false, true→T, full-all}
-use Rattle.paper.proofs.CharDef.Sound.{zero-one, numeral-sound}
-use Rattle.paper.proofs.CharDef.Complete.{digit-apart, numeral-chars, numeral-read}
+use Rattle.paper.proofs.Apart.{none-some}
+use Rattle.paper.proofs.Numbers.Read.{numeral-sound, numeral-read, hex-small}
+use Rattle.paper.proofs.CharDef.Dots.{Cuts, uncut, cut-at, parts-cuts, no-dots-tail}
+use Rattle.paper.proofs.CharDef.Complete.{strip-all, no-0x}
+use Rattle.paper.proofs.CharDef.Sound.{strip-rest}
 
 -- ---- parts
-
-nil-cons {ℓ} : {X : Type ℓ} {c : ℕ} {s : List ℕ} → [] ≡ c ∷ s → X
-nil-cons e = zero-one (cc)
-
-no-dots-nil : NoDots []
-no-dots-nil [] b e = nil-cons e
-no-dots-nil (x ∷ a) b e = nil-cons e
-
-no-dots-cons : (c : ℕ) (s : List ℕ) → ((t : List ℕ) → c ∷ s ≡ dot ∷ dot ∷ t → ⊥) → NoDots s → NoDots (c ∷ s)
-no-dots-cons c s f n [] b e = f b e
-no-dots-cons c s f n (x ∷ a) b e = let i : s ≡ a ++ (dot ∷ dot ∷ b) = cc in n a b i
-
-no-dots-one : (c : ℕ) → NoDots (c ∷ [])
-no-dots-one c = no-dots-cons c [] (λ t e. let i : [] ≡ dot ∷ t = cc in nil-cons i) no-dots-nil
-
-no-dots-tail : (c : ℕ) (s : List ℕ) → NoDots (c ∷ s) → NoDots s
-no-dots-tail c s n a b e = n (c ∷ a) b (ap (λ l. c ∷ l) e)
-
--- the parts between the `..` found from the left
-pub data Cuts : List ℕ → List (List ℕ) → Type 0 where
-  uncut : {cs : List ℕ} → NoDots cs → Cuts cs (cs ∷ [])
-  cut-at : {cs l : List ℕ} {ls : List (List ℕ)} (r : List ℕ) → cs ≡ l ++ (dot ∷ dot ∷ r) → NoDots (l ++ (dot ∷ [])) → Cuts r ls → Cuts cs (l ∷ ls)
-
-push-cuts : (c d : ℕ) (s : List ℕ) {ls : List (List ℕ)} → ((t : List ℕ) → c ∷ d ∷ s ≡ dot ∷ dot ∷ t → ⊥)
-    → Cuts (d ∷ s) ls → Cuts (c ∷ d ∷ s) (push c ls)
-push-cuts c d s f (uncut n) = uncut (no-dots-cons c (d ∷ s) f n)
-push-cuts c d s f (cut-at {l = []} r e n q) =
-    cut-at r (ap (λ l. c ∷ l) e) (no-dots-cons c (dot ∷ []) (λ t i. (let j : c ∷ d ∷ s ≡ dot ∷ dot ∷ dot ∷ r = cc in f (dot ∷ r) j)) n) q
-push-cuts c d s f (cut-at {l = x ∷ l} r e n q) =
-    cut-at r (ap (λ l. c ∷ l) e) (no-dots-cons c (x ∷ (l ++ (dot ∷ []))) (λ t i. (let j : c ∷ d ∷ s ≡ dot ∷ dot ∷ s = cc in f s j)) n) q
-
-pub parts-cuts : (cs : List ℕ) → Cuts cs (parts cs)
-parts-cuts [] = uncut no-dots-nil
-parts-cuts (c ∷ []) = uncut (no-dots-one c)
-parts-cuts (c ∷ d ∷ cs) = step (eqb c dot && eqb d dot) refl (parts-cuts cs) (parts-cuts (d ∷ cs))
-  where
-    step : (b : Bool) → (eqb c dot && eqb d dot) ≡ b → Cuts cs (parts cs) → Cuts (d ∷ cs) (parts (d ∷ cs))
-        → Cuts (c ∷ d ∷ cs) (cond b ([] ∷ parts cs) (push c (parts (d ∷ cs))))
-    step true e q r =
-        let t = and-yes (eqb c dot) (eqb d dot) (true→T _ e) in
-        let cd : c ≡ dot = eqb→eq c dot (t .0) in
-        let dd : d ≡ dot = eqb→eq d dot (t .1) in
-        let whole : c ∷ d ∷ cs ≡ dot ∷ dot ∷ cs = cc in
-        cut-at cs whole (no-dots-one dot) q
-    step false e q r = push-cuts c d cs never r
-      where
-        never : (t : List ℕ) → c ∷ d ∷ cs ≡ dot ∷ dot ∷ t → ⊥
-        never t i =
-            let cd : c ≡ dot = cc in
-            let dd : d ≡ dot = cc in
-            let both : (eqb c dot && eqb d dot) ≡ true = rw (cd, dd) in
-            subst T (sym both ∙ e) tt
 
 -- the first `..` is before every other
 first-dots : (l r a s : List ℕ) → NoDots (l ++ (dot ∷ [])) → l ++ (dot ∷ dot ∷ r) ≡ a ++ (dot ∷ dot ∷ s)
@@ -142,44 +90,13 @@ parts-bounds {bounds} {lower} {upper} names (two-parts e n m) =
 
 -- ---- codes
 
-strip-front : (cs : List ℕ) → (k : ℕ) × (cs ≡ zeroXs k ++ strip0x cs)
-strip-front [] = (0, refl)
-strip-front (c ∷ []) = (0, refl)
-strip-front (c ∷ d ∷ cs) = step (eqb c digit0 && eqb d letterX) refl (strip-front cs)
-  where
-    step : (b : Bool) → (eqb c digit0 && eqb d letterX) ≡ b → (k : ℕ) × (cs ≡ zeroXs k ++ strip0x cs)
-        → (k : ℕ) × (c ∷ d ∷ cs ≡ zeroXs k ++ cond b (strip0x cs) (c ∷ d ∷ cs))
-    step true e (k, h) =
-        let t = and-yes (eqb c digit0) (eqb d letterX) (true→T _ e) in
-        let cz : c ≡ digit0 = eqb→eq c digit0 (t .0) in
-        let dx : d ≡ letterX = eqb→eq d letterX (t .1) in
-        (suc k, cc)
-    step false e (k, h) = (0, refl)
+pub hex-read : {part : List ℕ} {code : ℕ} → Hex16 part code → numeral hexadecimal maxU16 (strip0x part) ≡ some code
+hex-read h = rw (h .whole, strip-all (h .times) (h .numeral) (no-0x (h .number))) (numeral-read hexadecimal maxU16 hex-small (h .number))
 
-strip-none : (n : List ℕ) → T (all (λ c. not (eqb c letterX)) n) → strip0x n ≡ n
-strip-none [] a = refl
-strip-none (c ∷ []) a = refl
-strip-none (c ∷ d ∷ n) a =
-    let h = and-yes (not (eqb c letterX)) _ a in
-    let g = and-yes (not (eqb d letterX)) _ (h .1) in
-    rw (T→false (eqb c digit0 && eqb d letterX) (not-T (eqb c digit0 && eqb d letterX) (λ t. T-not (eqb d letterX) (and-yes (eqb c digit0) (eqb d letterX) t .1) (g .0))))
-
-strip-all : (k : ℕ) (n : List ℕ) → T (all (λ c. not (eqb c letterX)) n) → strip0x (zeroXs k ++ n) ≡ n
-strip-all zero n a = strip-none n a
-strip-all (suc k) n a = strip-all k n a
-
-pub hex-read : {part : List ℕ} {code : ℕ} → Hex16 part code → numeral 16 maxU16 (strip0x part) ≡ some code
-hex-read h =
-    let no-x = numeral-chars 16 maxU16 (lit≤ tt) (λ c. not (eqb c letterX)) tt (digit-apart 16 letterX (lit≤ tt) (unfold isDigit in refl)) (h .number) in
-    rw (h .whole, strip-all (h .times) (h .numeral) (full-all (λ c. not (eqb c letterX)) (h .numeral) no-x)) (numeral-read 16 maxU16 (lit≤ tt) (h .number))
-
-pub hex-found : (part : List ℕ) (code : ℕ) → numeral 16 maxU16 (strip0x part) ≡ some code → Hex16 part code
+pub hex-found : (part : List ℕ) (code : ℕ) → numeral hexadecimal maxU16 (strip0x part) ≡ some code → Hex16 part code
 hex-found part code h =
-    let (k, e) = strip-front part in
-    record { times = k; numeral = strip0x part; whole = e; number = numeral-sound 16 maxU16 (strip0x part) code h }
-
-pub none-some {ℓ} : {X : Type ℓ} {n : ℕ} → none ≡ some n → X
-none-some e = zero-one (cc)
+    let (k, e, least) = strip-rest part in
+    record { times = k; numeral = strip0x part; whole = e; number = numeral-sound hexadecimal maxU16 (strip0x part) code h }
 
 -- a bound, or what is wrong with it
 pub data Judged (part : List ℕ) : BoundFound → Type 0 where
@@ -188,12 +105,12 @@ pub data Judged (part : List ℕ) : BoundFound → Type 0 where
 
 pub judged : (part : List ℕ) → Judged part (boundOf part)
 unfolding boundOf
-judged part = go (numeral 16 maxU16 (strip0x part)) refl
+judged part = go (numeral hexadecimal maxU16 (strip0x part)) refl
   where
-    some-case : (c : ℕ) → Hex16 part c → (x y : Bool) → eqb c 0xFEFF ≡ x → eqb c 0xFFFE ≡ y
+    some-case : (c : ℕ) → Hex16 part c → (x y : Bool) → eqb c byteOrderMark ≡ x → eqb c swappedMark ≡ y
         → Judged part (cond (x || y) (noBound boundMark) (boundIs (standsFor c)))
-    some-case c h true y ex ey = bad (mark (subst (Hex16 part) (eqb-true c 0xFEFF ex) h))
-    some-case c h false true ex ey = bad (swapped (subst (Hex16 part) (eqb-true c 0xFFFE ey) h))
+    some-case c h true y ex ey = bad (mark (subst (Hex16 part) (eqb-true c byteOrderMark ex) h))
+    some-case c h false true ex ey = bad (swapped (subst (Hex16 part) (eqb-true c swappedMark ey) h))
     some-case c h false false ex ey =
         good (record {
           times = h .times;
@@ -202,27 +119,21 @@ judged part = go (numeral 16 maxU16 (strip0x part)) refl
           whole = h .whole;
           enough = zero-le;
           number = h .number;
-          noMark = eqb-false c 0xFEFF ex;
-          noSwap = eqb-false c 0xFFFE ey;
+          noMark = eqb-false c byteOrderMark ex;
+          noSwap = eqb-false c swappedMark ey;
           says = refl;
         })
 
-    go : (o : Option ℕ) → numeral 16 maxU16 (strip0x part) ≡ o → Judged part (checkedBound o)
+    go : (o : Option ℕ) → numeral hexadecimal maxU16 (strip0x part) ≡ o → Judged part (checkedBound o)
     go none e = bad (no-hex (λ code h. none-some (sym e ∙ hex-read h)))
-    go (some c) e = some-case c (hex-found part c e) (eqb c 0xFEFF) (eqb c 0xFFFE) refl refl
+    go (some c) e = some-case c (hex-found part c e) (eqb c byteOrderMark) (eqb c swappedMark) refl refl
 
 pub bad-read : {part : List ℕ} {n : ℕ} → BadBound part n → boundOf part ≡ noBound n
 unfolding boundOf checkedBound
-bad-read {part} (no-hex f) = go (numeral 16 maxU16 (strip0x part)) refl
+bad-read {part} (no-hex f) = go (numeral hexadecimal maxU16 (strip0x part)) refl
   where
-    go : (o : Option ℕ) → numeral 16 maxU16 (strip0x part) ≡ o → checkedBound o ≡ noBound boundUnreadable
+    go : (o : Option ℕ) → numeral hexadecimal maxU16 (strip0x part) ≡ o → checkedBound o ≡ noBound boundUnreadable
     go none e = refl
     go (some c) e = absurd (f c (hex-found part c e))
 bad-read (mark h) = rw (hex-read h)
 bad-read (swapped h) = rw (hex-read h)
-
-pub good-read : {part : List ℕ} {b : ℕ} → Bound 0 part b → boundOf part ≡ boundIs b
-unfolding boundOf checkedBound
-good-read {part} {b} g =
-    let h : Hex16 part (g .code) = record { times = g .times; numeral = g .numeral; whole = g .whole; number = g .number } in
-    rw (hex-read h, ne-eqb (g .code) 0xFEFF (g .noMark), ne-eqb (g .code) 0xFFFE (g .noSwap), g .says)

@@ -1,215 +1,117 @@
 -- Characters that say a line are read as that line: so they say one line at most.
 -- Assumes nothing.
-use Prim.Native.Nat.{ℕ, zero, suc, _-_, _<_, _≤_}
-use native.Mathlib.Nat.{lt-of-lt-of-le}
-use native.Mathlib.Omega.{arith}
+use Prim.Native.Nat.{ℕ, zero, suc, _-_, _≤_}
 use mathlib.Core.Path.{_≡_, refl, sym, ap, _∙_, subst}
-use mathlib.Core.Bool.{Bool, true, false, not, cond, _&&_, _||_}
-use mathlib.Core.Option.{none, some}
+use mathlib.Core.Bool.{Bool, true, false, not, _&&_}
 use mathlib.Core.List.{List, [], _∷_, _++_, append-assoc, append-nil}
-use lib.Dec.{T, leb, ltb, eqb, eqb→eq, lit≤}
-use mir.Facts.{and-yes, yes-and, T-not, not-T, leb-yes, ltb-yes, yes-ltb, yes-leb}
+use lib.Dec.{T, eqb, eqb→eq}
+use mir.Facts.{and-yes, yes-and, T-not, not-T}
 use borrow.Author.Tests.{ne-eqb}
+use Rattle.paper.specs.Sizes.{maxU16, maxU32}
 use Rattle.paper.specs.Lists.{empty, all, full, nothingOr, words, until, trimStart, trimEnd}
-use Rattle.paper.specs.Text.Scalar.{between, isWhite, isSep}
-use Rattle.paper.specs.Numbers.Numeral.{isDigit, plus, Numeral}
-use Rattle.paper.specs.CharDef.Line.{Line, blank, category, range, isHash, isNameChar, isFieldChar, comment, begins0x, beginsWhite, zeroXs, Bound, Bounds, one, two, Names, BlankLine, RangeLine, CategoryLine, LineFits}
-use Rattle.paper.specs.Computed.Numeral.{dropPlus, numeral}
-use Rattle.paper.specs.Computed.ReadText.{found, BoundFound, strip0x, parts, boundOf, fromParts, rangeOf, categoryOf, body, bodyLine, lineOf}
-use Rattle.paper.proofs.Lists.Facts.{T→true, T→false, apart, from-below, all-append, full-all, all-imp, full-imp, un, until-append, trimStart-append, trimEnd-append, words-word, words-run}
+use Rattle.paper.specs.Text.Scalar.{isWhite, isSep, plusSign, dot, digit0, letterX, byteOrderMark, swappedMark}
+use Rattle.paper.specs.Numbers.Numeral.{isDigit, plus, Numeral, decimal, hexadecimal}
+use Rattle.paper.specs.CharDef.Line.{Line, blank, category, range, isHash, isNameChar, isFieldChar, comment, begins0x, beginsWhite, zeroXs, Bound, Bounds, one-bound, two-bounds, Names, BlankLine, RangeLine, CategoryLine, LineFits}
 use Rattle.paper.specs.CharDef.Line as line
-use Rattle.paper.specs.Computed.ReadText as read
-
--- ---- characters
-
--- p's characters are q's, as a test
-abbrev imp : (ℕ → Bool) → (ℕ → Bool) → ℕ → Bool
-imp p q c = not (p c) || q c
-
-use-imp : (a b : Bool) → T (not a || b) → T a → T b
-use-imp true b t h = t
-use-imp false b t h = absurd h
-
-white-no-hash : (c : ℕ) → T (isWhite c) → T (un isHash c)
-unfolding isWhite
-white-no-hash = apart isWhite 35 refl
-
-sep-no-hash : (c : ℕ) → T (isSep c) → T (un isHash c)
-unfolding isSep
-sep-no-hash = apart isSep 35 refl
-
-name-no-hash : (c : ℕ) → T (isNameChar c) → T (un isHash c)
-unfolding isNameChar
-name-no-hash c t = and-yes (not (isWhite c)) (not (isHash c)) t .1
-
-name-no-white : (c : ℕ) → T (isNameChar c) → T (un isWhite c)
-unfolding isNameChar
-name-no-white c t = and-yes (not (isWhite c)) (not (isHash c)) t .0
-
-field-no-hash : (c : ℕ) → T (isFieldChar c) → T (un isHash c)
-unfolding isFieldChar
-field-no-hash c t = and-yes (not (isSep c)) (not (isHash c)) t .1
-
-field-no-sep : (c : ℕ) → T (isFieldChar c) → T (un isSep c)
-unfolding isFieldChar
-field-no-sep c t = and-yes (not (isSep c)) (not (isHash c)) t .0
-
-digit-small : (base c : ℕ) → base ≤ 16 → T (isDigit base c) → c < 103
-unfolding isDigit
-digit-small base c b t = go (between 48 57 c) (between 65 70 c) (between 97 102 c) (λ h. h) (λ h. h) (λ h. h) t
-  where
-    go : (x y z : Bool) → (T x → T (between 48 57 c)) → (T y → T (between 65 70 c)) → (T z → T (between 97 102 c))
-        → T (ltb (cond x (c - 48) (cond y (c - 55) (cond z (c - 87) 16))) base) → c < 103
-    go true y z f g h u = let k : c ≤ 57 = leb-yes (and-yes (leb 48 c) (leb c 57) (f tt) .1) in omega arith
-    go false true z f g h u = let k : c ≤ 70 = leb-yes (and-yes (leb 65 c) (leb c 70) (g tt) .1) in omega arith
-    go false false true f g h u = let k : c ≤ 102 = leb-yes (and-yes (leb 97 c) (leb c 102) (h tt) .1) in omega arith
-    go false false false f g h u = let k : 16 < base = ltb-yes u in omega arith
-
-digit-16 : (base c : ℕ) → base ≤ 16 → T (isDigit base c) → T (isDigit 16 c)
-unfolding isDigit
-digit-16 base c b t = yes-ltb (lt-of-lt-of-le (ltb-yes t) b)
-
-digit-name : (base : ℕ) → base ≤ 16 → (c : ℕ) → T (isDigit base c) → T (isNameChar c)
-unfolding isDigit isNameChar
-digit-name base b c t =
-    use-imp (isDigit 16 c) (isNameChar c) (from-below (imp (isDigit 16) isNameChar) 103 tt c (digit-small base c b t)) (digit-16 base c b t)
-
-digit-field : (base : ℕ) → base ≤ 16 → (c : ℕ) → T (isDigit base c) → T (isFieldChar c)
-unfolding isDigit isFieldChar
-digit-field base b c t =
-    use-imp (isDigit 16 c) (isFieldChar c) (from-below (imp (isDigit 16) isFieldChar) 103 tt c (digit-small base c b t)) (digit-16 base c b t)
-
--- a digit is none of the characters that 16's digits are not
-pub digit-apart : (base k : ℕ) → base ≤ 16 → isDigit 16 k ≡ false → (c : ℕ) → T (isDigit base c) → T (not (eqb c k))
-digit-apart base k b e c t = apart (isDigit 16) k e c (digit-16 base c b t)
-
--- ---- numerals
-
-module _ (base limit : ℕ) (b16 : base ≤ 16) where
-  sign-digits : (q : ℕ → Bool) → T (q 43) → ((c : ℕ) → T (isDigit base c) → T (q c))
-      → (sign ds : List ℕ) → T (plus sign) → T (full (isDigit base) ds) → T (full q (sign ++ ds))
-  sign-digits q q43 f [] ds p d = full-imp (isDigit base) q f ds d
-  sign-digits q q43 f (c ∷ []) ds p d =
-      yes-and (q c) (all q ds) (subst (λ k. T (q k)) (sym (eqb→eq c 43 p)) q43) (all-imp (isDigit base) q f ds (full-all (isDigit base) ds d))
-  sign-digits q q43 f (c ∷ e ∷ s) ds p d = absurd p
-
-  -- what holds of `+` and of digits holds of a numeral's characters
-  pub numeral-chars : (q : ℕ → Bool) → T (q 43) → ((c : ℕ) → T (isDigit base c) → T (q c))
-      → {cs : List ℕ} {n : ℕ} → Numeral base limit cs n → T (full q cs)
-  numeral-chars q q43 f r = rw (r .whole) (sign-digits q q43 f (r .sign) (r .digits) (r .signed) (r .spelled))
-
-  dropPlus-digits : (sign ds : List ℕ) → T (plus sign) → T (full (isDigit base) ds) → dropPlus (sign ++ ds) ≡ ds
-  dropPlus-digits [] [] p d = refl
-  dropPlus-digits [] (c ∷ ds) p d =
-      let h = and-yes (isDigit base c) (all (isDigit base) ds) d in
-      rw (T→false (eqb c 43) (digit-apart base 43 b16 (unfold isDigit in refl) c (h .0)))
-  dropPlus-digits (c ∷ []) ds p d = rw (T→true (eqb c 43) p)
-  dropPlus-digits (c ∷ e ∷ s) ds p d = absurd p
-
-  pub numeral-read : {cs : List ℕ} {n : ℕ} → Numeral base limit cs n → numeral base limit cs ≡ some n
-  unfolding numeral
-  numeral-read {cs} {n} r =
-      rw (r .whole, dropPlus-digits (r .sign) (r .digits) (r .signed) (r .spelled))
-      (rw (← r .value, T→true (full (isDigit base) (r .digits)) (r .spelled), T→true (leb n limit) (yes-leb (r .fits))))
+use Rattle.paper.specs.CharDef.BadLine.{Body}
+use Rattle.paper.specs.Computed.Numeral.{numeral}
+use Rattle.paper.specs.Computed.ReadText.{found, BoundFound, strip0x, parts, boundOf, fromParts, rangeOf, categoryOf, body, bodyLine, lineOf}
+use Rattle.paper.proofs.Lists.Facts.{T→false, all-append, full-all, all-imp, full-imp, un, until-append, trimStart-append, trimEnd-append, words-word, words-run}
+use Rattle.paper.proofs.Lists.Pieces.{full-opens}
+use Rattle.paper.proofs.Numbers.Read.{digit-apart, numeral-chars, numeral-read, decimal-small, hex-small}
+use Rattle.paper.proofs.CharDef.Bodies.{body-is}
+use Rattle.paper.proofs.CharDef.Chars.{white-no-hash, sep-no-hash, sep-no-x, name-no-hash, name-no-white, field-no-hash, field-no-sep, digit-name, digit-field}
 
 -- ---- bounds
-
-le16 : 16 ≤ 16
-le16 = lit≤ tt
-
-pub le10 : 10 ≤ 16
-le10 = lit≤ tt
 
 strip-none : (n : List ℕ) → T (not (begins0x n)) → strip0x n ≡ n
 strip-none [] t = refl
 strip-none (c ∷ []) t = refl
-strip-none (c ∷ d ∷ n) t = rw (T→false (eqb c 48 && eqb d 120) t)
+strip-none (c ∷ d ∷ n) t = rw (T→false (eqb c digit0 && eqb d letterX) t)
 
-strip-all : (k : ℕ) (n : List ℕ) → T (not (begins0x n)) → strip0x (zeroXs k ++ n) ≡ n
+pub strip-all : (k : ℕ) (n : List ℕ) → T (not (begins0x n)) → strip0x (zeroXs k ++ n) ≡ n
 strip-all zero n t = strip-none n t
 strip-all (suc k) n t = strip-all k n t
 
-numeral-no-0x : (sign ds : List ℕ) → T (plus sign) → T (full (isDigit 16) ds) → T (not (begins0x (sign ++ ds)))
+numeral-no-0x : (sign ds : List ℕ) → T (plus sign) → T (full (isDigit hexadecimal) ds) → T (not (begins0x (sign ++ ds)))
 numeral-no-0x [] [] p d = tt
 numeral-no-0x [] (c ∷ []) p d = tt
 numeral-no-0x [] (c ∷ e ∷ ds) p d =
-    let h = and-yes (isDigit 16 c) (all (isDigit 16) (e ∷ ds)) d in
-    let g = and-yes (isDigit 16 e) (all (isDigit 16) ds) (h .1) in
-    not-T (eqb c 48 && eqb e 120)
-    (λ t. T-not (eqb e 120) (and-yes (eqb c 48) (eqb e 120) t .1) (digit-apart 16 120 le16 (unfold isDigit in refl) e (g .0)))
+    let h = and-yes (isDigit hexadecimal c) (all (isDigit hexadecimal) (e ∷ ds)) d in
+    let g = and-yes (isDigit hexadecimal e) (all (isDigit hexadecimal) ds) (h .1) in
+    not-T (eqb c digit0 && eqb e letterX)
+    (λ t. T-not (eqb e letterX) (and-yes (eqb c digit0) (eqb e letterX) t .1) (digit-apart hexadecimal letterX hex-small (unfold isDigit in refl) e (g .0)))
 numeral-no-0x (c ∷ []) [] p d = tt
-numeral-no-0x (c ∷ []) (e ∷ ds) p d = rw (eqb→eq c 43 p) tt
+numeral-no-0x (c ∷ []) (e ∷ ds) p d = rw (eqb→eq c plusSign p) tt
 numeral-no-0x (c ∷ f ∷ s) ds p d = absurd p
 
-zeroXs-chars : (q : ℕ → Bool) → T (q 48) → T (q 120) → (k : ℕ) → T (all q (zeroXs k))
+pub no-0x : {cs : List ℕ} {code : ℕ} → Numeral hexadecimal maxU16 cs code → T (not (begins0x cs))
+no-0x r = rw (r .whole) (numeral-no-0x (r .sign) (r .digits) (r .signed) (r .spelled))
+
+zeroXs-chars : (q : ℕ → Bool) → T (q digit0) → T (q letterX) → (k : ℕ) → T (all q (zeroXs k))
 zeroXs-chars q a b zero = tt
-zeroXs-chars q a b (suc k) = yes-and (q 48) (all q (120 ∷ zeroXs k)) a (yes-and (q 120) (all q (zeroXs k)) b (zeroXs-chars q a b k))
+zeroXs-chars q a b (suc k) = yes-and (q digit0) (all q (letterX ∷ zeroXs k)) a (yes-and (q letterX) (all q (zeroXs k)) b (zeroXs-chars q a b k))
 
 append-full : (q : ℕ → Bool) (s t : List ℕ) → T (all q s) → T (full q t) → T (full q (s ++ t))
 append-full q [] t a b = b
 append-full q (c ∷ s) t a b = all-append q (c ∷ s) t a (full-all q t b)
 
 -- what holds of `0`, `x`, `+` and hex digits holds of a bound's characters
-bound-chars : (q : ℕ → Bool) → T (q 48) → T (q 120) → T (q 43) → ((c : ℕ) → T (isDigit 16 c) → T (q c))
+bound-chars : (q : ℕ → Bool) → T (q digit0) → T (q letterX) → T (q plusSign) → ((c : ℕ) → T (isDigit hexadecimal c) → T (q c))
     → {least : ℕ} {cs : List ℕ} {v : ℕ} → Bound least cs v → T (full q cs)
 bound-chars q q0 qx q+ f b =
     rw (b .whole)
-    (append-full q (zeroXs (b .times)) (b .numeral) (zeroXs-chars q q0 qx (b .times)) (numeral-chars 16 0xFFFF le16 q q+ f (b .number)))
+    (append-full q (zeroXs (b .times)) (b .numeral) (zeroXs-chars q q0 qx (b .times)) (numeral-chars hexadecimal maxU16 hex-small q q+ f (b .number)))
 
-bound-read : {least : ℕ} {cs : List ℕ} {v : ℕ} → Bound least cs v → boundOf cs ≡ BoundFound.boundIs v
+pub bound-read : {least : ℕ} {cs : List ℕ} {v : ℕ} → Bound least cs v → boundOf cs ≡ BoundFound.boundIs v
 unfolding boundOf
 bound-read b =
     rw (
       b .whole,
-      strip-all (b .times) (b .numeral) no0x,
-      numeral-read 16 0xFFFF le16 (b .number),
-      ne-eqb (b .code) 0xFEFF (b .noMark),
-      ne-eqb (b .code) 0xFFFE (b .noSwap),
+      strip-all (b .times) (b .numeral) (no-0x (b .number)),
+      numeral-read hexadecimal maxU16 hex-small (b .number),
+      ne-eqb (b .code) byteOrderMark (b .noMark),
+      ne-eqb (b .code) swappedMark (b .noSwap),
       b .says,
     )
-  where
-    no0x : T (not (begins0x (b .numeral)))
-    no0x =
-        rw (b .number .whole)
-        (numeral-no-0x (b .number .sign) (b .number .digits) (b .number .signed) (b .number .spelled))
 
 isDot : ℕ → Bool
-isDot c = eqb c 46
+isDot c = eqb c dot
 
-parts-one : (s : List ℕ) → T (all (λ c. not (eqb c 46)) s) → parts s ≡ s ∷ []
+parts-one : (s : List ℕ) → T (all (λ c. not (eqb c dot)) s) → parts s ≡ s ∷ []
 parts-one [] a = refl
 parts-one (c ∷ []) a = refl
 parts-one (c ∷ d ∷ s) a =
-    let h = and-yes (not (eqb c 46)) (all (λ c. not (eqb c 46)) (d ∷ s)) a in
-    rw (T→false (eqb c 46) (h .0), parts-one (d ∷ s) (h .1))
+    let h = and-yes (not (eqb c dot)) (all (λ c. not (eqb c dot)) (d ∷ s)) a in
+    rw (T→false (eqb c dot) (h .0), parts-one (d ∷ s) (h .1))
 
-parts-two : (s t : List ℕ) → T (all (λ c. not (eqb c 46)) s) → parts (s ++ (46 ∷ 46 ∷ t)) ≡ s ∷ parts t
+parts-two : (s t : List ℕ) → T (all (λ c. not (eqb c dot)) s) → parts (s ++ (dot ∷ dot ∷ t)) ≡ s ∷ parts t
 parts-two [] t a = refl
-parts-two (c ∷ []) t a = rw (T→false (eqb c 46) (and-yes (not (eqb c 46)) true a .0))
+parts-two (c ∷ []) t a = rw (T→false (eqb c dot) (and-yes (not (eqb c dot)) true a .0))
 parts-two (c ∷ d ∷ s) t a =
-    let h = and-yes (not (eqb c 46)) (all (λ c. not (eqb c 46)) (d ∷ s)) a in
-    rw (T→false (eqb c 46) (h .0), parts-two (d ∷ s) t (h .1))
+    let h = and-yes (not (eqb c dot)) (all (λ c. not (eqb c dot)) (d ∷ s)) a in
+    rw (T→false (eqb c dot) (h .0), parts-two (d ∷ s) t (h .1))
 
-no-dots : {least : ℕ} {cs : List ℕ} {v : ℕ} → Bound least cs v → T (all (λ c. not (eqb c 46)) cs)
+no-dots : {least : ℕ} {cs : List ℕ} {v : ℕ} → Bound least cs v → T (all (λ c. not (eqb c dot)) cs)
 no-dots {least} {cs} b =
-    full-all (λ c. not (eqb c 46)) cs
-    (bound-chars (λ c. not (eqb c 46)) tt tt tt (digit-apart 16 46 le16 (unfold isDigit in refl)) b)
+    full-all (λ c. not (eqb c dot)) cs
+    (bound-chars (λ c. not (eqb c dot)) tt tt tt (digit-apart hexadecimal dot hex-small (unfold isDigit in refl)) b)
 
 bounds-read : {cs : List ℕ} {lower upper : ℕ} (names : List (List ℕ)) → Bounds cs lower upper
     → fromParts (parts cs) names ≡ found (range lower upper names)
 unfolding fromParts
-bounds-read {cs} names (one b e) = rw (parts-one cs (no-dots b), bound-read b, e)
-bounds-read {cs} names (two l r w a b) =
+bounds-read {cs} names (one-bound b e) = rw (parts-one cs (no-dots b), bound-read b, e)
+bounds-read {cs} names (two-bounds l r w a b) =
     rw (w, parts-two l r (no-dots a), parts-one r (no-dots b), bound-read a, bound-read b)
 
 -- what holds of `0`, `x`, `+`, hex digits and `.` holds of the bounds' characters
-bounds-chars : (q : ℕ → Bool) → T (q 48) → T (q 120) → T (q 43) → T (q 46) → ((c : ℕ) → T (isDigit 16 c) → T (q c))
+bounds-chars : (q : ℕ → Bool) → T (q digit0) → T (q letterX) → T (q plusSign) → T (q dot) → ((c : ℕ) → T (isDigit hexadecimal c) → T (q c))
     → {cs : List ℕ} {lower upper : ℕ} → Bounds cs lower upper → T (full q cs)
-bounds-chars q q0 qx q+ qd f (one b e) = bound-chars q q0 qx q+ f b
-bounds-chars q q0 qx q+ qd f (two l r w a b) =
+bounds-chars q q0 qx q+ qd f (one-bound b e) = bound-chars q q0 qx q+ f b
+bounds-chars q q0 qx q+ qd f (two-bounds l r w a b) =
     rw w
-    (append-full q l (46 ∷ 46 ∷ r) (full-all q l (bound-chars q q0 qx q+ f a))
-    (yes-and (q 46) (q 46 && all q r) qd (yes-and (q 46) (all q r) qd (full-all q r (bound-chars q q0 qx q+ f b)))))
+    (append-full q l (dot ∷ dot ∷ r) (full-all q l (bound-chars q q0 qx q+ f a))
+    (yes-and (q dot) (q dot && all q r) qd (yes-and (q dot) (all q r) qd (full-all q r (bound-chars q q0 qx q+ f b)))))
 
 -- the first of them is `0x`
 zeroXs-0x : (k : ℕ) (s : List ℕ) → 1 ≤ k → begins0x (zeroXs k ++ s) ≡ true
@@ -220,18 +122,14 @@ bound-0x : {cs : List ℕ} {v : ℕ} (s : List ℕ) → Bound 1 cs v → begins0
 bound-0x s b = rw (b .whole, append-assoc) (zeroXs-0x (b .times) (b .numeral ++ s) (b .enough))
 
 bounds-0x : {cs : List ℕ} {lower upper : ℕ} (s : List ℕ) → Bounds cs lower upper → begins0x (cs ++ s) ≡ true
-bounds-0x s (one b e) = bound-0x s b
-bounds-0x s (two l r w a b) = rw (w, append-assoc) (bound-0x ((46 ∷ 46 ∷ r) ++ s) a)
+bounds-0x s (one-bound b e) = bound-0x s b
+bounds-0x s (two-bounds l r w a b) = rw (w, append-assoc) (bound-0x ((dot ∷ dot ∷ r) ++ s) a)
 
 -- ---- names
 
-edge-append : (p : ℕ → Bool) (w r : List ℕ) → T (full p w) → T (nothingOr p (w ++ r))
-edge-append p [] r a = absurd a
-edge-append p (c ∷ w) r a = and-yes (p c) (all p w) a .0
-
 names-edge : {cs : List ℕ} {ns : List (List ℕ)} → Names cs ns → T (nothingOr isWhite cs)
 names-edge (line.no-names e) = rw e tt
-names-edge (line.more-names {name = n} w r e fw fn t) = rw e (edge-append isWhite w (n ++ r) fw)
+names-edge (line.more-names {name = n} w r e fw fn t) = rw e (full-opens isWhite w (n ++ r) fw)
 
 names-no-hash : {cs : List ℕ} {ns : List (List ℕ)} → Names cs ns → T (all (un isHash) cs)
 names-no-hash (line.no-names e) = rw e tt
@@ -276,29 +174,23 @@ body-of before core after rest wb nh wa cm op trimmed =
     ∙ ap (trimEnd isWhite) (trimStart-append isWhite before (core ++ after) wb op)
     ∙ trimmed
 
-body-blank : (white rest : List ℕ) → T (all isWhite white) → T (comment rest) → body (white ++ rest) ≡ []
-unfolding body
-body-blank white rest w c =
-    ap (λ l. trimEnd isWhite (trimStart isWhite l)) (until-append isHash white rest (all-imp isWhite (un isHash) white-no-hash white w) c)
-    ∙ ap (λ l. trimEnd isWhite (trimStart isWhite l)) (sym (append-nil white))
-    ∙ ap (trimEnd isWhite) (trimStart-append isWhite white [] w tt)
-
-range-body : (s : List ℕ) → begins0x s ≡ true → bodyLine s ≡ rangeOf (words isWhite s)
+pub range-body : (s : List ℕ) → begins0x s ≡ true → bodyLine s ≡ rangeOf (words isWhite s)
 unfolding bodyLine
 range-body [] e = absurd (subst T (sym e) tt)
 range-body (c ∷ s) e = rw e
 
-category-body : (s : List ℕ) → T (not (empty s)) → begins0x s ≡ false → bodyLine s ≡ categoryOf (words isSep s)
+pub category-body : (s : List ℕ) → T (not (empty s)) → begins0x s ≡ false → bodyLine s ≡ categoryOf (words isSep s)
 unfolding bodyLine
 category-body [] n e = absurd n
 category-body (c ∷ s) n e = rw e
 
 blank-complete : {cs : List ℕ} → BlankLine cs → lineOf cs ≡ found blank
 unfolding lineOf
-blank-complete l = rw (l .whole, body-blank (l .white) (l .rest) (l .isWhites) (l .isComment))
-
-full-edge : (p : ℕ → Bool) (s t : List ℕ) → T (full p s) → T (nothingOr p (s ++ t))
-full-edge = edge-append
+blank-complete {cs} l = ap bodyLine (body-is cs [] none)
+  where
+    none : Body cs []
+    none =
+        record { before = l .white; after = []; rest = l .rest; whole = l .whole; whiteBefore = l .isWhites; noHash = tt; opens = tt; closes = tt; whiteAfter = tt; isComment = l .isComment }
 
 range-complete : {cs : List ℕ} {lower upper : ℕ} {names : List (List ℕ)} → RangeLine cs lower upper names
     → lineOf cs ≡ found (range lower upper names)
@@ -311,7 +203,7 @@ range-complete {cs} {lower} {upper} {names} l =
     ∙ unfold rangeOf in bounds-read names (l .bounded)
   where
     chars : T (full isNameChar (l .bounds))
-    chars = bounds-chars isNameChar (unfold isNameChar in tt) (unfold isNameChar in tt) (unfold isNameChar in tt) (unfold isNameChar in tt) (digit-name 16 le16) (l .bounded)
+    chars = bounds-chars isNameChar (unfold isNameChar in tt) (unfold isNameChar in tt) (unfold isNameChar in tt) (unfold isNameChar in tt) (digit-name hexadecimal hex-small) (l .bounded)
 
     solid : T (full (un isWhite) (l .bounds))
     solid = full-imp isNameChar (un isWhite) name-no-white (l .bounds) chars
@@ -325,28 +217,24 @@ range-complete {cs} {lower} {upper} {names} l =
         ∙ body-of (l .before) (l .bounds ++ l .named) (l .after) (l .rest) (l .whiteBefore)
         (all-append (un isHash) (l .bounds) (l .named) (all-imp isNameChar (un isHash) name-no-hash (l .bounds) (full-all isNameChar (l .bounds) chars)) (names-no-hash (l .names-in)))
         (l .whiteAfter) (l .isComment)
-        (rw append-assoc (full-edge (un isWhite) (l .bounds) (l .named ++ l .after) solid))
+        (rw append-assoc (full-opens (un isWhite) (l .bounds) (l .named ++ l .after) solid))
         (ap (trimEnd isWhite) (append-assoc (l .bounds) (l .named) (l .after)) ∙ names-trim [] (l .bounds) (l .after) solid (l .whiteAfter) (l .names-in))
 
-flag-field : {cs : List ℕ} {n : ℕ} → Numeral 10 0xFFFF_FFFF cs n → T (full isFieldChar cs)
-flag-field r = numeral-chars 10 0xFFFF_FFFF le10 isFieldChar (unfold isFieldChar in tt) (digit-field 10 le10) r
+flag-field : {cs : List ℕ} {n : ℕ} → Numeral decimal maxU32 cs n → T (full isFieldChar cs)
+flag-field r = numeral-chars decimal maxU32 decimal-small isFieldChar (unfold isFieldChar in tt) (digit-field decimal decimal-small) r
 
-flag-name : {cs : List ℕ} {n : ℕ} → Numeral 10 0xFFFF_FFFF cs n → T (full isNameChar cs)
-flag-name r = numeral-chars 10 0xFFFF_FFFF le10 isNameChar (unfold isNameChar in tt) (digit-name 10 le10) r
+flag-name : {cs : List ℕ} {n : ℕ} → Numeral decimal maxU32 cs n → T (full isNameChar cs)
+flag-name r = numeral-chars decimal maxU32 decimal-small isNameChar (unfold isNameChar in tt) (digit-name decimal decimal-small) r
 
 -- a name and a separator do not begin `0x` where the name does not
-sep-no-x : (c : ℕ) → T (isSep c) → T (not (eqb c 120))
-unfolding isSep
-sep-no-x = apart isSep 120 refl
-
 name-no-0x : (name gap s : List ℕ) → T (full isFieldChar name) → T (not (begins0x name)) → T (full isSep gap) → begins0x (name ++ (gap ++ s)) ≡ false
 name-no-0x [] gap s f n g = absurd f
 name-no-0x (c ∷ []) [] s f n g = absurd g
 name-no-0x (c ∷ []) (d ∷ gap) s f n g =
-    T→false (eqb c 48 && eqb d 120)
-    (not-T (eqb c 48 && eqb d 120)
-    (λ t. T-not (eqb d 120) (and-yes (eqb c 48) (eqb d 120) t .1) (sep-no-x d (and-yes (isSep d) (all isSep gap) g .0))))
-name-no-0x (c ∷ d ∷ name) gap s f n g = T→false (eqb c 48 && eqb d 120) n
+    T→false (eqb c digit0 && eqb d letterX)
+    (not-T (eqb c digit0 && eqb d letterX)
+    (λ t. T-not (eqb d letterX) (and-yes (eqb c digit0) (eqb d letterX) t .1) (sep-no-x d (and-yes (isSep d) (all isSep gap) g .0))))
+name-no-0x (c ∷ d ∷ name) gap s f n g = T→false (eqb c digit0 && eqb d letterX) n
 
 no-hash-name : (s : List ℕ) → T (full isNameChar s) → T (all (un isHash) s)
 no-hash-name s f = all-imp isNameChar (un isHash) name-no-hash s (full-all isNameChar s f)
@@ -425,9 +313,9 @@ module _ {cs name : List ℕ} {invoke group : Bool} {len : ℕ} (l : CategoryLin
   core-words : words isSep core ≡ name ∷ l .field₁ ∷ l .field₂ ∷ l .field₃ ∷ []
   unfolding core
   core-words =
-      words-word isSep name _ (no-sep name (l .nameChars)) (edge-append isSep (l .gap₁) _ (l .sep₁))
-      ∙ ap (λ w. name ∷ w) (gap-word (l .gap₁) (l .field₁) _ (l .sep₁) f₁ (edge-append isSep (l .gap₂) _ (l .sep₂))
-      ∙ ap (λ w. l .field₁ ∷ w) (gap-word (l .gap₂) (l .field₂) _ (l .sep₂) f₂ (edge-append isSep (l .gap₃) _ (l .sep₃))
+      words-word isSep name _ (no-sep name (l .nameChars)) (full-opens isSep (l .gap₁) _ (l .sep₁))
+      ∙ ap (λ w. name ∷ w) (gap-word (l .gap₁) (l .field₁) _ (l .sep₁) f₁ (full-opens isSep (l .gap₂) _ (l .sep₂))
+      ∙ ap (λ w. l .field₁ ∷ w) (gap-word (l .gap₂) (l .field₂) _ (l .sep₂) f₂ (full-opens isSep (l .gap₃) _ (l .sep₃))
       ∙ ap (λ w. l .field₂ ∷ w) (words-run isSep (l .gap₃) (l .field₃) (full-all isSep (l .gap₃) (l .sep₃))
       ∙ ap (words isSep) (sym (append-nil (l .field₃)))
       ∙ words-word isSep (l .field₃) [] (no-sep (l .field₃) f₃) tt)))
@@ -436,9 +324,9 @@ module _ {cs name : List ℕ} {invoke group : Bool} {len : ℕ} (l : CategoryLin
   unfolding categoryOf
   core-category =
       rw (
-        numeral-read 10 0xFFFF_FFFF le10 (l .invokes .spelled),
-        numeral-read 10 0xFFFF_FFFF le10 (l .groups .spelled),
-        numeral-read 10 0xFFFF_FFFF le10 (l .lengths),
+        numeral-read decimal maxU32 decimal-small (l .invokes .spelled),
+        numeral-read decimal maxU32 decimal-small (l .groups .spelled),
+        numeral-read decimal maxU32 decimal-small (l .lengths),
         l .invokes .says,
         l .groups .says,
       )

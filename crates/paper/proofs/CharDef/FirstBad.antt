@@ -23,18 +23,16 @@ use Rattle.paper.specs.CharDef.BadLine.{BadLine}
 use Rattle.paper.specs.CharDef.Reading.{Reading, Fits, joinLF, noLF, isLF, accepted, refused}
 use Rattle.paper.specs.Computed.Decode.{Text, broken, chars, decode}
 use Rattle.paper.specs.Computed.ReadText.{lineOf, body, bodyLine, Step, go-on, stop, enter, verdict, afterLine, readLines, nothingRead, readChars, readText}
-use Rattle.paper.proofs.Lists.Facts.{T→true, T→false, all-append, cut-run, pushAll-first}
-use Rattle.paper.proofs.CharDef.Sound.{false→T, zero-one, all-left, all-right, cut-pieces}
-use Rattle.paper.proofs.Text.Code.{decode-complete, decode-sound}
+use Rattle.paper.proofs.Apart.{nil-cons, refused-accepted}
+use Rattle.paper.proofs.Lists.Facts.{T→true, T→false, all-append, cut-run, pushAll-first, false→T, all-left, all-right, map-append}
+use Rattle.paper.proofs.Lists.Pieces.{cut-pieces}
+use Rattle.paper.proofs.Text.Code.{decode-complete, decode-sound, utf8-one}
 use Rattle.paper.proofs.Text.Bytes.{utf8-append, cut-utf8}
-use Rattle.paper.proofs.CharDef.Whole.{map-append, cut-joined, pieces-joined, refused-accepted}
+use Rattle.paper.proofs.CharDef.Whole.{cut-joined, pieces-joined}
 use Rattle.paper.proofs.CharDef.Accepts.{fits-accepted, accepted-fits, fits-one}
 use Rattle.paper.proofs.CharDef.BadLine.{bad-line, bad-line-one}
 
 -- ---- where lines stop
-
-pub accepted-refused {ℓ} : {X : Type ℓ} {n k : ℕ} {r : Reading} → accepted r ≡ refused n k → X
-accepted-refused e = zero-one (cc)
 
 -- the lines that are read, the one that stops, and the rest
 pub record Stops (k : ℕ) (css : List (List ℕ)) (r : Reading) (n place : ℕ) : Type 0 where
@@ -49,7 +47,7 @@ pub record Stops (k : ℕ) (css : List (List ℕ)) (r : Reading) (n place : ℕ)
 
 pub lines-stop : (css : List (List ℕ)) (k : ℕ) (r : Reading) (n place : ℕ) → readLines k css r ≡ refused n place → Stops k css r n place
 unfolding readLines
-lines-stop [] k r n place h = accepted-refused h
+lines-stop [] k r n place h = refused-accepted (sym h)
 lines-stop (cs ∷ css) k r n place h = go (verdict r cs) refl h (λ r′. lines-stop css (suc k) r′ n place)
   where
     go : (o : Step) → verdict r cs ≡ o → afterLine k o (λ r′. readLines (suc k) css r′) ≡ refused n place
@@ -176,22 +174,12 @@ LF-ascii b t = not-T (isLF b) (λ e. high (leb-yes t) (T→true _ e))
     high : 0x80 ≤ b → isLF b ≡ true → ⊥
     high h e = let i : b ≡ lf = eqb-true b lf e in omega arith
 
--- two texts of characters with the same bytes are the same
-pub utf8-one : (s t : List ℕ) → T (all isScalar s) → T (all isScalar t) → utf8 s ≡ utf8 t → s ≡ t
-unfolding decode
-utf8-one s t a b e =
-    let d : chars s ≡ chars t = sym (decode-complete s 0 a) ∙ ap decode e ∙ decode-complete t 0 b in
-    cc
-
 lines-scalar : (css : List (List ℕ)) → T (all isScalar (joinLF css)) → T (all (λ l. all isScalar l) css)
 lines-scalar [] a = tt
 lines-scalar (l ∷ []) a = yes-and (all isScalar l) true a tt
 lines-scalar (l ∷ m ∷ css) a =
     yes-and (all isScalar l) (all (λ l. all isScalar l) (m ∷ css)) (all-left isScalar l (lf ∷ joinLF (m ∷ css)) a)
     (lines-scalar (m ∷ css) (and-yes (isScalar lf) _ (all-right isScalar l (lf ∷ joinLF (m ∷ css)) a) .1))
-
-nil-cons {ℓ} : {X : Type ℓ} {l : List ℕ} {ls : List (List ℕ)} → [] ≡ l ∷ ls → X
-nil-cons e = zero-one (cc)
 
 -- lines of characters whose bytes begin with those of other lines begin with these
 same-front : (fs ts more : List (List ℕ)) → T (all (λ l. all isScalar l) fs) → T (all (λ l. all isScalar l) ts)

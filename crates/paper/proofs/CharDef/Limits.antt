@@ -15,31 +15,17 @@ use Rattle.paper.specs.Lists.{any, same, freshAfter}
 use Rattle.paper.specs.Text.Scalar.{utf8}
 use Rattle.paper.specs.CharDef.Line.{Line, blank, category, range}
 use Rattle.paper.specs.CharDef.Reading.{Definition, Reading, namesOf, nameBytes, references}
-use Rattle.paper.specs.CharDef.BadLine.{NoRoom, too-many, too-long, knownWith, FirstOver, PastLimit, range-over, references-over, range-name, line-over, category-name}
-use Rattle.paper.specs.Computed.ReadText.{go-on, stop, Interned, names-are, full-at, internOne, afterOne, intern, addRange, addDefinition, enter}
-use Rattle.paper.proofs.Lists.Facts.{T→true, T→false, true→T}
+use Rattle.paper.specs.CharDef.BadLine.{NoRoom, too-many, too-many-bytes, knownWith, FirstOver, PastLimit, range-over, references-over, range-name, line-over, category-name}
+use Rattle.paper.specs.Computed.ReadText.{stop, Interned, names-are, full-at, internOne, afterOne, intern, addRange, addDefinition, enter}
+use Rattle.paper.proofs.Apart.{zero-one, full-names, stop-go}
+use Rattle.paper.proofs.Lists.Facts.{T→true, T→false, true→T, false→T, any-append}
 use Rattle.paper.proofs.Lists.Seen.{same-eq}
-use Rattle.paper.proofs.CharDef.Sound.{false→T, zero-one}
-
-names-full {ℓ} : {X : Type ℓ} {m : List (List ℕ)} {n : ℕ} → names-are m ≡ full-at n → X
-names-full e = zero-one (cc)
-
-go-stop {ℓ} : {X : Type ℓ} {r : Reading} {n : ℕ} → go-on r ≡ stop n → X
-go-stop e = zero-one (cc)
 
 nil-middle {ℓ} : {X : Type ℓ} (a : List (List ℕ)) (x : List ℕ) (b : List (List ℕ)) → [] ≡ a ++ (x ∷ b) → X
 nil-middle [] x b e = zero-one (cc)
 nil-middle (y ∷ a) x b e = zero-one (cc)
 
 -- ---- what is new
-
-any-append : {A : Type 0} (p : A → Bool) (s t : List A) → any p (s ++ t) ≡ (any p s || any p t)
-any-append p [] t = refl
-any-append p (x ∷ s) t = ap (λ b. p x || b) (any-append p s t) ∙ regroup (p x) (any p s) (any p t)
-  where
-    regroup : (a b c : Bool) → (a || (b || c)) ≡ (a || b || c)
-    regroup true b c = refl
-    regroup false b c = refl
 
 -- only what is known matters, not in which order
 fresh-same : (b c xs : List (List ℕ)) → ((n : List ℕ) → any (same n) b ≡ any (same n) c) → freshAfter same b xs ≡ freshAfter same c xs
@@ -88,11 +74,11 @@ data One (known : List (List ℕ)) (x : List ℕ) : Interned → Type 0 where
 
 known-room : (known : List (List ℕ)) (x : List ℕ) → any (same x) known ≡ true → (m : ℕ) → NoRoom known x m → ⊥
 known-room known x e m (too-many new h) = subst (λ b. T (not b)) e new
-known-room known x e m (too-long new h i) = subst (λ b. T (not b)) e new
+known-room known x e m (too-many-bytes new h i) = subst (λ b. T (not b)) e new
 
 new-room : (known : List (List ℕ)) (x : List ℕ) → length known < maxCategories → nameBytes known + length x ≤ maxNameBytes → (m : ℕ) → NoRoom known x m → ⊥
 new-room known x few short m (too-many new h) = omega arith
-new-room known x few short m (too-long new h i) = omega arith
+new-room known x few short m (too-many-bytes new h i) = omega arith
 
 one : (known : List (List ℕ)) (x : List ℕ) → One known x (internOne known x)
 unfolding internOne
@@ -105,7 +91,7 @@ one known x = go (any (same x) known) (leb maxCategories (length known)) (ltb ma
         subst (λ k. One known x (names-are k)) e (room (known-room known x ea))
     go false true c ea eb ec = over (too-many (false→T _ ea) (let h : maxCategories ≤ length known = leb-yes (true→T _ eb) in omega arith))
     go false false true ea eb ec =
-        over (too-long (false→T _ ea) (let h : length known < maxCategories = leb-no (false→T _ eb) in omega arith) (ltb-yes (true→T _ ec)))
+        over (too-many-bytes (false→T _ ea) (let h : length known < maxCategories = leb-no (false→T _ eb) in omega arith) (ltb-yes (true→T _ ec)))
     go false false false ea eb ec =
         let e : with known x ≡ known ++ (x ∷ []) = rw ea in
         subst (λ k. One known x (names-are k)) e (room (new-room known x (leb-no (false→T _ eb)) (ltb-no (false→T _ ec))))
@@ -115,7 +101,7 @@ unfolding internOne
 over-read {known} {x} (too-many new h) =
     let k : maxCategories ≤ length known = omega arith in
     rw (T→false (any (same x) known) new, T→true (leb maxCategories (length known)) (yes-leb k))
-over-read {known} {x} (too-long new h i) =
+over-read {known} {x} (too-many-bytes new h i) =
     let k : length known < maxCategories = omega arith in
     rw (T→false (any (same x) known) new, T→false (leb maxCategories (length known)) (no-leb k), T→true (ltb maxNameBytes (nameBytes known + length x)) (yes-ltb i))
 
@@ -154,7 +140,7 @@ over-later x known ns n free f =
 
 intern-over : (ns known : List (List ℕ)) (n : ℕ) → intern ns known ≡ full-at n → FirstOver known ns n
 unfolding intern
-intern-over [] known n h = names-full h
+intern-over [] known n h = full-names (sym h)
 intern-over (x ∷ ns) known n h = go (one known x) h (λ m. intern-over ns m n)
   where
     go : {o : Interned} → One known x o → afterOne o (λ m. intern ns m) ≡ full-at n
@@ -185,7 +171,7 @@ first-over-stops {known} {ns} {n} f = rw (f .whole) (intern-stops (f .earlier) (
 
 pub enter-past : (r : Reading) (l : Line) (n : ℕ) → enter r l ≡ stop n → PastLimit r l n
 unfolding enter namesOf
-enter-past r blank n h = go-stop h
+enter-past r blank n h = stop-go (sym h)
 enter-past r (category name invoke group len) n h = go (leb maxCategoryLines (length (r .definitions))) refl (intern (utf8 name ∷ []) (r .names)) refl h
   where
     d : Definition
@@ -201,7 +187,7 @@ enter-past r (category name invoke group len) n h = go (leb maxCategoryLines (le
         let j : m ≡ n = cc in
         let k : length (r .definitions) < maxCategoryLines = leb-no (false→T _ e) in
         subst (PastLimit r (category name invoke group len)) j (category-name (omega arith) (intern-over (utf8 name ∷ []) (r .names) m i))
-    go false e (names-are m) i h = go-stop h
+    go false e (names-are m) i h = stop-go (sym h)
 enter-past r (range lower upper names) n h =
     go (leb maxRanges (length (r .ranges))) refl (ltb maxReferences (references (r .ranges) + length names)) refl (intern (map utf8 names) (r .names)) refl h
   where
@@ -223,7 +209,7 @@ enter-past r (range lower upper names) n h =
         let j : m ≡ n = cc in
         let k : length (r .ranges) < maxRanges = leb-no (false→T _ ea) in
         subst Goal j (range-name (omega arith) (ltb-no (false→T _ eb)) (intern-over (map utf8 names) (r .names) m i))
-    go false ea false eb (names-are m) i h = go-stop h
+    go false ea false eb (names-are m) i h = stop-go (sym h)
 
 pub past-enter : {r : Reading} {l : Line} {n : ℕ} → PastLimit r l n → enter r l ≡ stop n
 unfolding enter namesOf

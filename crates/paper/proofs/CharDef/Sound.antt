@@ -1,167 +1,59 @@
 -- What is read as a line is said by its characters.
 -- Assumes nothing.
 use Prim.Native.Nat.{ℕ, suc, _≤_, zero-le, suc-le-suc}
-use native.Mathlib.Omega.{arith}
 use mathlib.Core.Path.{_≡_, refl, sym, ap, _∙_, subst}
-use mathlib.Core.Logic.{_⊎_, inl, inr}
 use mathlib.Core.Bool.{Bool, true, false, not, cond, _&&_, _||_}
 use mathlib.Core.Option.{Option, none, some}
-use mathlib.Core.List.{List, [], _∷_, _++_, append-assoc, append-nil}
-use lib.Dec.{T, leb, eqb, eqb→eq}
-use mir.Facts.{and-yes, yes-and, or-yes, T-not, not-T, leb-yes}
+use mathlib.Core.List.{List, [], _∷_, _++_, append-assoc}
+use lib.Dec.{T, eqb, eqb→eq}
+use mir.Facts.{and-yes, T-not, not-T}
 use borrow.Author.Tests.{eqb-false}
-use Rattle.paper.specs.Lists.{empty, all, full, nothingOr, select, push, cut, words, until, trimStart, trimEnd}
-use Rattle.paper.specs.Text.Scalar.{isWhite, isSep}
-use Rattle.paper.specs.Numbers.Numeral.{isDigit, valueAfter, Numeral}
-use Rattle.paper.specs.CharDef.Line.{Line, blank, category, range, isHash, isNameChar, isFieldChar, comment, begins0x, beginsWhite, zeroXs, standsFor, Bound, Bounds, one, two, Names, LineFits}
-use Rattle.paper.specs.Computed.Numeral.{spelledBy, numeral}
-use Rattle.paper.specs.Computed.ReadText.{found, wrong, BoundFound, noBound, strip0x, parts, checkedBound, boundOf, fromBounds, fromParts, rangeOf, fromNumbers, categoryOf, body, bodyLine, lineOf}
-use Rattle.paper.proofs.Lists.Facts.{true→T, apart, all-append, all-imp, un}
+use Rattle.paper.specs.Sizes.{maxU16, maxU32}
+use Rattle.paper.specs.Refusals.{boundMark}
+use Rattle.paper.specs.Lists.{all, full, nothingOr, words}
+use Rattle.paper.specs.Text.Scalar.{isWhite, isSep, dot, digit0, letterX, byteOrderMark, swappedMark}
+use Rattle.paper.specs.Numbers.Numeral.{decimal, hexadecimal}
+use Rattle.paper.specs.CharDef.Line.{Line, blank, category, range, isHash, isNameChar, isFieldChar, begins0x, beginsWhite, zeroXs, standsFor, Bound, Bounds, one-bound, two-bounds, Names, LineFits}
 use Rattle.paper.specs.CharDef.Line as line
-
-pub false→T : (b : Bool) → b ≡ false → T (not b)
-false→T true e = subst (λ b. T (not b)) (sym e) tt
-false→T false e = tt
-
--- ---- what the steps leave
-
-module _ {A : Type 0} (p : A → Bool) where
-  until-rest : (cs : List A) → (rest : List A) × (cs ≡ until p cs ++ rest) × T (nothingOr p rest) × T (all (un p) (until p cs))
-  until-rest [] = ([], refl, tt, tt)
-  until-rest (x ∷ cs) = step (p x) refl (until-rest cs)
-    where
-      step : (b : Bool) → p x ≡ b → (rest : List A) × (cs ≡ until p cs ++ rest) × T (nothingOr p rest) × T (all (un p) (until p cs))
-          → (rest : List A) × (x ∷ cs ≡ cond b [] (x ∷ until p cs) ++ rest) × T (nothingOr p rest) × T (all (un p) (cond b [] (x ∷ until p cs)))
-      step true e (r, h, t, a) = (x ∷ cs, refl, true→T (p x) e, tt)
-      step false e (r, h, t, a) = (r, ap (λ l. x ∷ l) h, t, yes-and (un p x) (all (un p) (until p cs)) (false→T (p x) e) a)
-
-  trimStart-rest : (cs : List A) → (w : List A) × (cs ≡ w ++ trimStart p cs) × T (all p w) × T (nothingOr (un p) (trimStart p cs))
-  trimStart-rest [] = ([], refl, tt, tt)
-  trimStart-rest (x ∷ cs) = step (p x) refl (trimStart-rest cs)
-    where
-      step : (b : Bool) → p x ≡ b → (w : List A) × (cs ≡ w ++ trimStart p cs) × T (all p w) × T (nothingOr (un p) (trimStart p cs))
-          → (w : List A) × (x ∷ cs ≡ w ++ cond b (trimStart p cs) (x ∷ cs)) × T (all p w) × T (nothingOr (un p) (cond b (trimStart p cs) (x ∷ cs)))
-      step true e (w, h, a, t) = (x ∷ w, ap (λ l. x ∷ l) h, yes-and (p x) (all p w) (true→T (p x) e) a, t)
-      step false e (w, h, a, t) = ([], refl, tt, false→T (p x) e)
-
-  trimEnd-rest : (cs : List A) → (w : List A) × (cs ≡ trimEnd p cs ++ w) × T (all p w)
-  trimEnd-rest [] = ([], refl, tt)
-  trimEnd-rest (x ∷ cs) = step (p x) refl (trimEnd p cs) (trimEnd-rest cs)
-    where
-      step : (b : Bool) → p x ≡ b → (r : List A) → (w : List A) × (cs ≡ r ++ w) × T (all p w)
-          → (w : List A) × (x ∷ cs ≡ cond (b && empty r) [] (x ∷ r) ++ w) × T (all p w)
-      step true e [] (w, h, a) = (x ∷ w, ap (λ l. x ∷ l) h, yes-and (p x) (all p w) (true→T (p x) e) a)
-      step true e (y ∷ r) (w, h, a) = (w, ap (λ l. x ∷ l) h, a)
-      step false e r (w, h, a) = (w, ap (λ l. x ∷ l) h, a)
-
--- the pieces between the characters that pass
-pub data Pieces (p : ℕ → Bool) : List ℕ → List (List ℕ) → Type 0 where
-  last : {cs : List ℕ} → T (all (un p) cs) → Pieces p cs (cs ∷ [])
-  then : {cs l : List ℕ} {ls : List (List ℕ)} (s : ℕ) (r : List ℕ) → cs ≡ l ++ (s ∷ r) → T (all (un p) l) → T (p s) → Pieces p r ls → Pieces p cs (l ∷ ls)
-
--- words, with runs before, between and behind them
-pub data Spread (p : ℕ → Bool) : List ℕ → List (List ℕ) → Type 0 where
-  run : {cs : List ℕ} → T (all p cs) → Spread p cs []
-  word : {cs f : List ℕ} {fs : List (List ℕ)} (w r : List ℕ) → cs ≡ w ++ (f ++ r) → T (all p w) → T (full (un p) f) → T (nothingOr p r) → Spread p r fs → Spread p cs (f ∷ fs)
-
-module _ (p : ℕ → Bool) where
-  push-pieces : (x : ℕ) → T (un p x) → {cs : List ℕ} {ls : List (List ℕ)} → Pieces p cs ls → Pieces p (x ∷ cs) (push x ls)
-  push-pieces x u {cs} (last a) = last (yes-and (un p x) (all (un p) cs) u a)
-  push-pieces x u (then {l = l} s r e a t q) = then s r (ap (λ l. x ∷ l) e) (yes-and (un p x) (all (un p) l) u a) t q
-
-  pub cut-pieces : (cs : List ℕ) → Pieces p cs (cut p cs)
-  cut-pieces [] = last tt
-  cut-pieces (x ∷ cs) = step (p x) refl (cut-pieces cs)
-    where
-      step : (b : Bool) → p x ≡ b → Pieces p cs (cut p cs) → Pieces p (x ∷ cs) (cond b ([] ∷ cut p cs) (push x (cut p cs)))
-      step true e q = then x cs refl tt (true→T (p x) e) q
-      step false e q = push-pieces x (false→T (p x) e) q
-
-  run-spread : (s : ℕ) → T (p s) → {r : List ℕ} {fs : List (List ℕ)} → Spread p r fs → Spread p (s ∷ r) fs
-  run-spread s t {r} (run a) = run (yes-and (p s) (all p r) t a)
-  run-spread s t (word w r e a f g q) = word (s ∷ w) r (ap (λ l. s ∷ l) e) (yes-and (p s) (all p w) t a) f g q
-
-  pieces-spread : {cs : List ℕ} {ls : List (List ℕ)} → Pieces p cs ls → Spread p cs (select (λ l. not (empty l)) ls)
-  pieces-spread (last {cs = []} a) = run tt
-  pieces-spread (last {cs = c ∷ cs} a) = word [] [] (sym (append-nil (c ∷ cs))) tt a tt (run tt)
-  pieces-spread (then {l = []} s r e a t q) = rw e (run-spread s t (pieces-spread q))
-  pieces-spread (then {l = c ∷ l} s r e a t q) = word [] (s ∷ r) e tt a t (run-spread s t (pieces-spread q))
-
-  pub words-spread : (cs : List ℕ) → Spread p cs (words p cs)
-  words-spread cs = pieces-spread (cut-pieces cs)
-
--- ---- numerals
-
-pub zero-one {ℓ} : {X : Type ℓ} → _≡_ {A = ℕ} 0 1 → X
-zero-one e = absurd (omega arith)
-
-none-some {ℓ} : {X : Type ℓ} {n : ℕ} → none ≡ some n → X
-none-some e = zero-one (cc)
-
-wrong-found {ℓ} : {X : Type ℓ} {n : ℕ} {l : Line} → wrong n ≡ found l → X
-wrong-found e = zero-one (cc)
-
-noEdge-edge {ℓ} : {X : Type ℓ} {n v : ℕ} → noBound n ≡ BoundFound.boundIs v → X
-noEdge-edge e = zero-one (cc)
-
-module _ (base limit : ℕ) where
-  pub spelled-sound : (ds : List ℕ) (n : ℕ) → spelledBy base limit ds ≡ some n
-      → T (full (isDigit base) ds) × (n ≡ valueAfter base 0 ds) × (n ≤ limit)
-  unfolding spelledBy
-  spelled-sound ds n h = go (full (isDigit base) ds && leb v limit) refl h
-    where
-      v : ℕ
-      v = valueAfter base 0 ds
-
-      go : (b : Bool) → (full (isDigit base) ds && leb v limit) ≡ b → cond b (some v) none ≡ some n
-          → T (full (isDigit base) ds) × (n ≡ v) × (n ≤ limit)
-      go true e h =
-          let t = and-yes (full (isDigit base) ds) (leb v limit) (true→T _ e) in
-          let same : n ≡ v = cc in
-          (t .0, same, rw same (leb-yes (t .1)))
-      go false e h = none-some h
-
-  pub numeral-sound : (cs : List ℕ) (n : ℕ) → numeral base limit cs ≡ some n → Numeral base limit cs n
-  unfolding numeral
-  numeral-sound [] n h = absurd (spelled-sound [] n h .0)
-  numeral-sound (c ∷ cs) n h = step (eqb c 43) refl h
-    where
-      step : (b : Bool) → eqb c 43 ≡ b → spelledBy base limit (cond b cs (c ∷ cs)) ≡ some n → Numeral base limit (c ∷ cs) n
-      step true e h =
-          let r = spelled-sound cs n h in
-          record { sign = c ∷ []; digits = cs; whole = refl; signed = true→T _ e; spelled = r .0; value = r .1; fits = r .2 }
-      step false e h =
-          let r = spelled-sound (c ∷ cs) n h in
-          record { sign = []; digits = c ∷ cs; whole = refl; signed = tt; spelled = r .0; value = r .1; fits = r .2 }
+use Rattle.paper.specs.CharDef.BadLine.{Body}
+use Rattle.paper.specs.Computed.Numeral.{numeral}
+use Rattle.paper.specs.Computed.ReadText.{found, BoundFound, noBound, strip0x, checkedBound, boundOf, fromBounds, fromParts, rangeOf, fromNumbers, categoryOf, bodyLine, lineOf}
+use Rattle.paper.proofs.Apart.{wrong-found, none-bound}
+use Rattle.paper.proofs.Lists.Facts.{true→T, all-append, all-imp, un, false→T, all-left, all-right}
+use Rattle.paper.proofs.Lists.Pieces.{Spread, run, word, words-spread, gap-full, gap-none, both-full, clash}
+use Rattle.paper.proofs.Numbers.Read.{numeral-sound}
+use Rattle.paper.proofs.CharDef.Bodies.{has-body, body-is}
+use Rattle.paper.proofs.CharDef.Chars.{sep-white, white-no-x, name-char, field-char}
+use Rattle.paper.proofs.CharDef.Dots.{Cuts, uncut, cut-at, parts-cuts}
 
 -- ---- bounds
 
-strip-rest : (cs : List ℕ) → (k : ℕ) × (cs ≡ zeroXs k ++ strip0x cs) × (T (begins0x cs) → 1 ≤ k)
+pub strip-rest : (cs : List ℕ) → (k : ℕ) × (cs ≡ zeroXs k ++ strip0x cs) × (T (begins0x cs) → 1 ≤ k)
 strip-rest [] = (0, refl, λ t. absurd t)
 strip-rest (c ∷ []) = (0, refl, λ t. absurd t)
-strip-rest (c ∷ d ∷ cs) = step (eqb c 48 && eqb d 120) refl (strip-rest cs)
+strip-rest (c ∷ d ∷ cs) = step (eqb c digit0 && eqb d letterX) refl (strip-rest cs)
   where
-    step : (b : Bool) → (eqb c 48 && eqb d 120) ≡ b → (k : ℕ) × (cs ≡ zeroXs k ++ strip0x cs) × (T (begins0x cs) → 1 ≤ k)
+    step : (b : Bool) → (eqb c digit0 && eqb d letterX) ≡ b → (k : ℕ) × (cs ≡ zeroXs k ++ strip0x cs) × (T (begins0x cs) → 1 ≤ k)
         → (k : ℕ) × (c ∷ d ∷ cs ≡ zeroXs k ++ cond b (strip0x cs) (c ∷ d ∷ cs)) × (T b → 1 ≤ k)
     step true e (k, h, f) =
-        let t = and-yes (eqb c 48) (eqb d 120) (true→T _ e) in
-        let cz : c ≡ 48 = eqb→eq c 48 (t .0) in
-        let dx : d ≡ 120 = eqb→eq d 120 (t .1) in
+        let t = and-yes (eqb c digit0) (eqb d letterX) (true→T _ e) in
+        let cz : c ≡ digit0 = eqb→eq c digit0 (t .0) in
+        let dx : d ≡ letterX = eqb→eq d letterX (t .1) in
         (suc k, cc, λ u. suc-le-suc zero-le)
     step false e (k, h, f) = (0, refl, λ t. absurd t)
 
 bound-sound : (least : ℕ) (cs : List ℕ) (v : ℕ) → boundOf cs ≡ BoundFound.boundIs v
     → ((k : ℕ) → (T (begins0x cs) → 1 ≤ k) → least ≤ k) → Bound least cs v
 unfolding boundOf
-bound-sound least cs v h m = go (numeral 16 0xFFFF (strip0x cs)) refl h
+bound-sound least cs v h m = go (numeral hexadecimal maxU16 (strip0x cs)) refl h
   where
     s : (k : ℕ) × (cs ≡ zeroXs k ++ strip0x cs) × (T (begins0x cs) → 1 ≤ k)
     s = strip-rest cs
 
-    some-case : (c : ℕ) → numeral 16 0xFFFF (strip0x cs) ≡ some c → (x y : Bool) → eqb c 0xFEFF ≡ x → eqb c 0xFFFE ≡ y
-        → cond (x || y) (noBound 6) (BoundFound.boundIs (standsFor c)) ≡ BoundFound.boundIs v → Bound least cs v
-    some-case c n true y ex ey h = noEdge-edge h
-    some-case c n false true ex ey h = noEdge-edge h
+    some-case : (c : ℕ) → numeral hexadecimal maxU16 (strip0x cs) ≡ some c → (x y : Bool) → eqb c byteOrderMark ≡ x → eqb c swappedMark ≡ y
+        → cond (x || y) (noBound boundMark) (BoundFound.boundIs (standsFor c)) ≡ BoundFound.boundIs v → Bound least cs v
+    some-case c n true y ex ey h = none-bound h
+    some-case c n false true ex ey h = none-bound h
     some-case c n false false ex ey h =
         record {
           times = s .0;
@@ -169,38 +61,15 @@ bound-sound least cs v h m = go (numeral 16 0xFFFF (strip0x cs)) refl h
           code = c;
           whole = s .1;
           enough = m (s .0) (s .2);
-          number = numeral-sound 16 0xFFFF (strip0x cs) c n;
-          noMark = eqb-false c 0xFEFF ex;
-          noSwap = eqb-false c 0xFFFE ey;
+          number = numeral-sound hexadecimal maxU16 (strip0x cs) c n;
+          noMark = eqb-false c byteOrderMark ex;
+          noSwap = eqb-false c swappedMark ey;
           says = cc;
         }
 
-    go : (o : Option ℕ) → numeral 16 0xFFFF (strip0x cs) ≡ o → checkedBound o ≡ BoundFound.boundIs v → Bound least cs v
-    go none n h = noEdge-edge h
-    go (some c) n h = some-case c n (eqb c 0xFEFF) (eqb c 0xFFFE) refl refl h
-
-data Dotted : List ℕ → List (List ℕ) → Type 0 where
-  lone : {cs : List ℕ} → Dotted cs (cs ∷ [])
-  dots : {cs l : List ℕ} {ls : List (List ℕ)} (r : List ℕ) → cs ≡ l ++ (46 ∷ 46 ∷ r) → Dotted r ls → Dotted cs (l ∷ ls)
-
-push-dotted : (x : ℕ) {cs : List ℕ} {ls : List (List ℕ)} → Dotted cs ls → Dotted (x ∷ cs) (push x ls)
-push-dotted x lone = lone
-push-dotted x (dots r e d) = dots r (ap (λ l. x ∷ l) e) d
-
-parts-dotted : (cs : List ℕ) → Dotted cs (parts cs)
-parts-dotted [] = lone
-parts-dotted (c ∷ []) = lone
-parts-dotted (c ∷ d ∷ cs) = step (eqb c 46 && eqb d 46) refl (parts-dotted cs) (parts-dotted (d ∷ cs))
-  where
-    step : (b : Bool) → (eqb c 46 && eqb d 46) ≡ b → Dotted cs (parts cs) → Dotted (d ∷ cs) (parts (d ∷ cs))
-        → Dotted (c ∷ d ∷ cs) (cond b ([] ∷ parts cs) (push c (parts (d ∷ cs))))
-    step true e q r =
-        let t = and-yes (eqb c 46) (eqb d 46) (true→T _ e) in
-        let cd : c ≡ 46 = eqb→eq c 46 (t .0) in
-        let dd : d ≡ 46 = eqb→eq d 46 (t .1) in
-        let whole : c ∷ d ∷ cs ≡ 46 ∷ 46 ∷ cs = cc in
-        dots cs whole q
-    step false e q r = push-dotted c r
+    go : (o : Option ℕ) → numeral hexadecimal maxU16 (strip0x cs) ≡ o → checkedBound o ≡ BoundFound.boundIs v → Bound least cs v
+    go none n h = none-bound h
+    go (some c) n h = some-case c n (eqb c byteOrderMark) (eqb c swappedMark) refl refl h
 
 -- both bounds were read
 edges : (x y : BoundFound) (names : List (List ℕ)) (l : Line) → fromBounds x y names ≡ found l
@@ -209,84 +78,24 @@ edges (noBound n) y names l h = wrong-found h
 edges (BoundFound.boundIs lo) (noBound n) names l h = wrong-found h
 edges (BoundFound.boundIs lo) (BoundFound.boundIs hi) names l h = (lo, hi, refl, refl, cc)
 
-dots-0x : (a r : List ℕ) → T (begins0x (a ++ (46 ∷ 46 ∷ r))) → T (begins0x a)
+dots-0x : (a r : List ℕ) → T (begins0x (a ++ (dot ∷ dot ∷ r))) → T (begins0x a)
 dots-0x [] r t = t
-dots-0x (c ∷ []) r t = and-yes (eqb c 48) (eqb 46 120) t .1
+dots-0x (c ∷ []) r t = and-yes (eqb c digit0) (eqb dot letterX) t .1
 dots-0x (c ∷ d ∷ a) r t = t
 
-bounds-sound : (f : List ℕ) (names : List (List ℕ)) (l : Line) → T (begins0x f) → {ls : List (List ℕ)} → Dotted f ls
+bounds-sound : (f : List ℕ) (names : List (List ℕ)) (l : Line) → T (begins0x f) → {ls : List (List ℕ)} → Cuts f ls
     → fromParts ls names ≡ found l → (lo hi : ℕ) × Bounds f lo hi × (l ≡ range lo hi names)
 unfolding fromParts
-bounds-sound f names l z lone h =
+bounds-sound f names l z (uncut n) h =
     let (lo, hi, x, y, e) = edges (boundOf f) (boundOf f) names l h in
-    (lo, hi, one (bound-sound 1 f lo x (λ k g. g z)) (cc), e)
-bounds-sound f names l z (dots {l = a} r w lone) h =
+    (lo, hi, one-bound (bound-sound 1 f lo x (λ k g. g z)) (cc), e)
+bounds-sound f names l z (cut-at {l = a} r w m (uncut n)) h =
     let (lo, hi, x, y, e) = edges (boundOf a) (boundOf r) names l h in
-    (lo, hi, two a r w (bound-sound 1 a lo x (λ k g. g (dots-0x a r (subst (λ s. T (begins0x s)) w z)))) (bound-sound 0 r hi y (λ k g. zero-le)), e)
-bounds-sound f names l z (dots r w (dots s v lone)) h = wrong-found h
-bounds-sound f names l z (dots r w (dots s v (dots t u d))) h = wrong-found h
+    (lo, hi, two-bounds a r w (bound-sound 1 a lo x (λ k g. g (dots-0x a r (subst (λ s. T (begins0x s)) w z)))) (bound-sound 0 r hi y (λ k g. zero-le)), e)
+bounds-sound f names l z (cut-at r w m (cut-at s v n (uncut o))) h = wrong-found h
+bounds-sound f names l z (cut-at r w m (cut-at s v n (cut-at t u o d))) h = wrong-found h
 
 -- ---- words and their gaps
-
-clash {ℓ} : {X : Type ℓ} (b : Bool) → T b → T (not b) → X
-clash b t u = absurd (T-not b t u)
-
-pub all-left : {A : Type 0} (p : A → Bool) (s t : List A) → T (all p (s ++ t)) → T (all p s)
-all-left p [] t a = tt
-all-left p (x ∷ s) t a = let h = and-yes (p x) (all p (s ++ t)) a in yes-and (p x) (all p s) (h .0) (all-left p s t (h .1))
-
-pub all-right : {A : Type 0} (p : A → Bool) (s t : List A) → T (all p (s ++ t)) → T (all p t)
-all-right p [] t a = a
-all-right p (x ∷ s) t a = all-right p s t (and-yes (p x) (all p (s ++ t)) a .1)
-
--- a run between a place that begins with a separator and a word is not empty
-gap-full : (p : ℕ → Bool) (w f r : List ℕ) → T (nothingOr p (w ++ (f ++ r))) → T (full (un p) f) → T (all p w) → T (full p w)
-gap-full p [] [] r g h a = absurd h
-gap-full p [] (c ∷ f) r g h a = clash (p c) g (and-yes (un p c) (all (un p) f) h .0)
-gap-full p (c ∷ w) f r g h a = a
-
--- a run where a text opens with no such character is empty
-gap-none : (p q : ℕ → Bool) → ((c : ℕ) → T (p c) → T (q c)) → (w s : List ℕ) → T (nothingOr (un q) (w ++ s)) → T (all p w) → w ≡ []
-gap-none p q f [] s g a = refl
-gap-none p q f (c ∷ w) s g a = clash (q c) (f c (and-yes (p c) (all p w) a .0)) g
-
-both-full : (p q r : ℕ → Bool) → ((c : ℕ) → T (p c) → T (q c) → T (r c)) → (s : List ℕ) → T (full p s) → T (all q s) → T (full r s)
-both-full p q r f [] a b = absurd a
-both-full p q r f (c ∷ s) a b = go (c ∷ s) a b
-  where
-    go : (s : List ℕ) → T (all p s) → T (all q s) → T (all r s)
-    go [] a b = tt
-    go (c ∷ s) a b =
-        let h = and-yes (p c) (all p s) a in
-        let g = and-yes (q c) (all q s) b in
-        yes-and (r c) (all r s) (f c (h .0) (g .0)) (go s (h .1) (g .1))
-
-name-char : (c : ℕ) → T (un isWhite c) → T (un isHash c) → T (isNameChar c)
-unfolding isNameChar
-name-char c a b = yes-and (un isWhite c) (un isHash c) a b
-
-field-char : (c : ℕ) → T (un isSep c) → T (un isHash c) → T (isFieldChar c)
-unfolding isFieldChar
-field-char c a b = yes-and (un isSep c) (un isHash c) a b
-
-sep-white : (c : ℕ) → T (isSep c) → T (isWhite c)
-unfolding isSep isWhite
-sep-white c t = go (or-yes (eqb c 9 || eqb c 12 || eqb c 13) (eqb c 32) t)
-  where
-    at : (k : ℕ) → T (isWhite k) → T (eqb c k) → T (isWhite c)
-    at k w e = rw (eqb→eq c k e) w
-
-    go₂ : T (eqb c 9) ⊎ T (eqb c 12) → T (isWhite c)
-    go₂ (inl e) = at 9 tt e
-    go₂ (inr e) = at 12 tt e
-
-    go₁ : T (eqb c 9 || eqb c 12) ⊎ T (eqb c 13) → T (isWhite c)
-    go₁ (inl e) = go₂ (or-yes (eqb c 9) (eqb c 12) e)
-    go₁ (inr e) = at 13 tt e
-
-    go : T (eqb c 9 || eqb c 12 || eqb c 13) ⊎ T (eqb c 32) → T (isWhite c)
-    go (inl e) = go₁ (or-yes (eqb c 9 || eqb c 12) (eqb c 13) e)
-    go (inr e) = at 32 tt e
 
 names-sound : {r : List ℕ} {fs : List (List ℕ)} → Spread isWhite r fs → T (nothingOr isWhite r) → T (all (un isHash) r)
     → (named after : List ℕ) × (r ≡ named ++ after) × Names named fs × T (all isWhite after)
@@ -306,45 +115,11 @@ names-sound {r} (word {f = f} w s e a n k q) g h =
 
 -- ---- a line, from its body
 
--- the body, and what stands around it
-pub record Around (cs core : List ℕ) : Type 0 where
-  pub before : List ℕ
-  pub after : List ℕ
-  pub rest : List ℕ
-  pub whole : cs ≡ before ++ (core ++ (after ++ rest))
-  pub whiteBefore : T (all isWhite before)
-  pub opens : T (nothingOr (un isWhite) core)
-  pub no-hash : T (all (un isHash) core)
-  pub whiteAfter : T (all isWhite after)
-  pub isComment : T (comment rest)
+opening : (s : List ℕ) → T (not (beginsWhite s)) → T (nothingOr (un isWhite) s)
+opening [] t = tt
+opening (c ∷ s) t = t
 
-edge-left : (p : ℕ → Bool) (s t : List ℕ) → T (nothingOr p (s ++ t)) → T (nothingOr p s)
-edge-left p [] t g = tt
-edge-left p (c ∷ s) t g = g
-
-body-around : (cs : List ℕ) → Around cs (body cs)
-unfolding body
-body-around cs =
-    let (r, e, cm, nh) = until-rest isHash cs in
-    let u = until isHash cs in
-    let (w, e₁, wb, op) = trimStart-rest isWhite u in
-    let s = trimStart isWhite u in
-    let (v, e₂, wa) = trimEnd-rest isWhite s in
-    let b = trimEnd isWhite s in
-    let regroup : w ++ (b ++ v) ++ r ≡ w ++ (b ++ (v ++ r)) = simp append-assoc in
-    record {
-      before = w;
-      after = v;
-      rest = r;
-      whole = e ∙ ap (λ x. x ++ r) (e₁ ∙ ap (λ x. w ++ x) e₂) ∙ regroup;
-      whiteBefore = wb;
-      opens = edge-left (un isWhite) b v (subst (λ x. T (nothingOr (un isWhite) x)) e₂ op);
-      no-hash = all-left (un isHash) b v (subst (λ x. T (all (un isHash) x)) e₂ (all-right (un isHash) w s (subst (λ x. T (all (un isHash) x)) e₁ nh)));
-      whiteAfter = wa;
-      isComment = cm;
-    }
-
-blank-sound : (cs : List ℕ) → Around cs [] → LineFits cs blank
+blank-sound : (cs : List ℕ) → Body cs [] → LineFits cs blank
 blank-sound cs a =
     record {
       white = a .before ++ a .after;
@@ -354,27 +129,23 @@ blank-sound cs a =
       isComment = a .isComment;
     }
 
-white-no-x : (c : ℕ) → T (isWhite c) → T (not (eqb c 120))
-unfolding isWhite
-white-no-x = apart isWhite 120 refl
-
 word-0x : (f r : List ℕ) → T (full (un isWhite) f) → T (nothingOr isWhite r) → T (begins0x (f ++ r)) → T (begins0x f)
 word-0x [] r a g t = absurd a
 word-0x (c ∷ []) [] a g t = t
-word-0x (c ∷ []) (d ∷ r) a g t = clash (eqb d 120) (and-yes (eqb c 48) (eqb d 120) t .1) (white-no-x d g)
+word-0x (c ∷ []) (d ∷ r) a g t = clash (eqb d letterX) (and-yes (eqb c digit0) (eqb d letterX) t .1) (white-no-x d g)
 word-0x (c ∷ d ∷ f) r a g t = t
 
-range-sound : (cs core : List ℕ) (l : Line) → Around cs core → T (begins0x core) → {fs : List (List ℕ)} → Spread isWhite core fs
+range-sound : (cs core : List ℕ) (l : Line) → Body cs core → T (begins0x core) → {fs : List (List ℕ)} → Spread isWhite core fs
     → rangeOf fs ≡ found l → LineFits cs l
 unfolding rangeOf
 range-sound cs core l a z (run q) h = wrong-found h
 range-sound cs core l a z (word {f = f} {fs = fs} w r e aw n k q) h =
-    let w0 : w ≡ [] = gap-none isWhite isWhite (λ c t. t) w (f ++ r) (subst (λ x. T (nothingOr (un isWhite) x)) e (a .opens)) aw in
+    let w0 : w ≡ [] = gap-none isWhite isWhite (λ c t. t) w (f ++ r) (subst (λ x. T (nothingOr (un isWhite) x)) e (opening core (a .opens))) aw in
     let e0 : core ≡ f ++ r = e ∙ ap (λ x. x ++ (f ++ r)) w0 in
     let z0 : T (begins0x f) = word-0x f r n k (subst (λ x. T (begins0x x)) e0 z) in
-    let nh : T (all (un isHash) r) = all-right (un isHash) f r (subst (λ x. T (all (un isHash) x)) e0 (a .no-hash)) in
+    let nh : T (all (un isHash) r) = all-right (un isHash) f r (subst (λ x. T (all (un isHash) x)) e0 (a .noHash)) in
     let (named, after, e₁, ns, wa) = names-sound q k nh in
-    let (lo, hi, bs, el) = bounds-sound f fs l z0 (parts-dotted f) h in
+    let (lo, hi, bs, el) = bounds-sound f fs l z0 (parts-cuts f) h in
     let regroup : a .before ++ (f ++ (named ++ after) ++ (a .after ++ a .rest)) ≡ a .before ++ (f ++ (named ++ (after ++ a .after ++ a .rest))) = simp append-assoc in
     let fits : LineFits cs (range lo hi fs) =
     record {
@@ -408,7 +179,7 @@ opens-name : (s t : List ℕ) → T (full (un isSep) s) → T (nothingOr (un isW
 opens-name [] t a g = absurd a
 opens-name (c ∷ s) t a g = g
 
-category-sound : (cs core : List ℕ) (l : Line) → Around cs core → T (not (begins0x core)) → {fs : List (List ℕ)} → Spread isSep core fs
+category-sound : (cs core : List ℕ) (l : Line) → Body cs core → T (not (begins0x core)) → {fs : List (List ℕ)} → Spread isSep core fs
     → categoryOf fs ≡ found l → LineFits cs l
 unfolding categoryOf
 category-sound cs core l a z (run q) h = wrong-found h
@@ -416,9 +187,9 @@ category-sound cs core l a z (word w r e aw n k (run q)) h = wrong-found h
 category-sound cs core l a z (word w r e aw n k (word w₁ r₁ e₁ aw₁ n₁ k₁ (run q))) h = wrong-found h
 category-sound cs core l a z (word w r e aw n k (word w₁ r₁ e₁ aw₁ n₁ k₁ (word w₂ r₂ e₂ aw₂ n₂ k₂ (run q)))) h = wrong-found h
 category-sound cs core l a z (word {f = f} w r e aw n k (word {f = f₁} w₁ r₁ e₁ aw₁ n₁ k₁ (word {f = f₂} w₂ r₂ e₂ aw₂ n₂ k₂ (word {f = f₃} w₃ r₃ e₃ aw₃ n₃ k₃ (run q))))) h =
-    let w0 : w ≡ [] = gap-none isSep isWhite sep-white w (f ++ r) (subst (λ x. T (nothingOr (un isWhite) x)) e (a .opens)) aw in
+    let w0 : w ≡ [] = gap-none isSep isWhite sep-white w (f ++ r) (subst (λ x. T (nothingOr (un isWhite) x)) e (opening core (a .opens))) aw in
     let e0 : core ≡ f ++ r = e ∙ ap (λ x. x ++ (f ++ r)) w0 in
-    let (i, g, len, hi, hg, hl, el) = numbers f (numeral 10 0xFFFF_FFFF f₁) (numeral 10 0xFFFF_FFFF f₂) (numeral 10 0xFFFF_FFFF f₃) l h in
+    let (i, g, len, hi, hg, hl, el) = numbers f (numeral decimal maxU32 f₁) (numeral decimal maxU32 f₂) (numeral decimal maxU32 f₃) l h in
     let deep : core ≡ f ++ (w₁ ++ (f₁ ++ (w₂ ++ (f₂ ++ (w₃ ++ (f₃ ++ r₃)))))) =
     e0 ∙ ap (λ x. f ++ x) (e₁ ∙ ap (λ x. w₁ ++ (f₁ ++ x)) (e₂ ∙ ap (λ x. w₂ ++ (f₂ ++ x)) e₃)) in
     let regroup : a .before ++ (f ++ (w₁ ++ (f₁ ++ (w₂ ++ (f₂ ++ (w₃ ++ (f₃ ++ r₃)))))) ++ (a .after ++ a .rest))
@@ -436,22 +207,22 @@ category-sound cs core l a z (word {f = f} w r e aw n k (word {f = f₁} w₁ r�
       rest = a .rest;
       whole = a .whole ∙ ap (λ x. a .before ++ (x ++ (a .after ++ a .rest))) deep ∙ regroup;
       whiteBefore = a .whiteBefore;
-      nameChars = both-full (un isSep) (un isHash) isFieldChar field-char f n (all-left (un isHash) f r (subst (λ x. T (all (un isHash) x)) e0 (a .no-hash)));
-      nameOpens = opens-name f r n (subst (λ x. T (nothingOr (un isWhite) x)) e0 (a .opens));
+      nameChars = both-full (un isSep) (un isHash) isFieldChar field-char f n (all-left (un isHash) f r (subst (λ x. T (all (un isHash) x)) e0 (a .noHash)));
+      nameOpens = opens-name f r n (subst (λ x. T (nothingOr (un isWhite) x)) e0 (opening core (a .opens)));
       nameNo0x = not-T (begins0x f) (λ t. T-not (begins0x (f ++ r)) (begins-left f r t) (subst (λ x. T (not (begins0x x))) e0 z));
       sep₁ = gap-full isSep w₁ f₁ r₁ (subst (λ x. T (nothingOr isSep x)) e₁ k) n₁ aw₁;
-      invokes = record { number = i; spelled = numeral-sound 10 0xFFFF_FFFF f₁ i hi; says = refl };
+      invokes = record { number = i; spelled = numeral-sound decimal maxU32 f₁ i hi; says = refl };
       sep₂ = gap-full isSep w₂ f₂ r₂ (subst (λ x. T (nothingOr isSep x)) e₂ k₁) n₂ aw₂;
-      groups = record { number = g; spelled = numeral-sound 10 0xFFFF_FFFF f₂ g hg; says = refl };
+      groups = record { number = g; spelled = numeral-sound decimal maxU32 f₂ g hg; says = refl };
       sep₃ = gap-full isSep w₃ f₃ r₃ (subst (λ x. T (nothingOr isSep x)) e₃ k₂) n₃ aw₃;
-      lengths = numeral-sound 10 0xFFFF_FFFF f₃ len hl;
+      lengths = numeral-sound decimal maxU32 f₃ len hl;
       whiteAfter = all-append isWhite r₃ (a .after) (all-imp isSep isWhite sep-white r₃ q) (a .whiteAfter);
       isComment = a .isComment;
     } in
     rw el fits
 category-sound cs core l a z (word w r e aw n k (word w₁ r₁ e₁ aw₁ n₁ k₁ (word w₂ r₂ e₂ aw₂ n₂ k₂ (word w₃ r₃ e₃ aw₃ n₃ k₃ (word w₄ r₄ e₄ aw₄ n₄ k₄ q))))) h = wrong-found h
 
-body-sound : (cs core : List ℕ) (l : Line) → Around cs core → bodyLine core ≡ found l → LineFits cs l
+body-sound : (cs core : List ℕ) (l : Line) → Body cs core → bodyLine core ≡ found l → LineFits cs l
 unfolding bodyLine
 body-sound cs [] l a h = let e : l ≡ blank = cc in rw e (blank-sound cs a)
 body-sound cs (c ∷ core) l a h = step (begins0x (c ∷ core)) refl h
@@ -463,4 +234,4 @@ body-sound cs (c ∷ core) l a h = step (begins0x (c ∷ core)) refl h
 -- what is read as a line is said by its characters
 pub line-sound : (cs : List ℕ) (l : Line) → lineOf cs ≡ found l → LineFits cs l
 unfolding lineOf
-line-sound cs l h = body-sound cs (body cs) l (body-around cs) h
+line-sound cs l h = let (core, b) = has-body cs in body-sound cs core l b (ap bodyLine (sym (body-is cs core b)) ∙ h)

@@ -1,7 +1,6 @@
 -- A text is accepted exactly with the readings that fit its lines.
 -- Assumes nothing.
 use Prim.Native.Nat.{ℕ, suc, _+_, _<_, _≤_}
-use native.Mathlib.Nat.{add-assoc}
 use native.Mathlib.Omega.{arith}
 use mathlib.Core.Path.{_≡_, refl, sym, ap, ap₂, _∙_, subst}
 use mathlib.Core.Bool.{Bool, true, false, not, cond}
@@ -9,35 +8,24 @@ use mathlib.Core.List.{List, [], _∷_, _++_, map, append-assoc, append-nil}
 use lib.Dec.{T, leb, ltb, eqb→eq}
 use lib.ListN.{length, length-append, length-map}
 use mir.Facts.{and-yes, yes-and, leb-no, ltb-no, no-ltb, no-leb}
+use Rattle.paper.specs.Sizes.{maxCategories, maxNameBytes, maxCategoryLines, maxRanges, maxReferences}
+use Rattle.paper.specs.Refusals.{rangesFull, referencesFull, categoryLinesFull, categoriesFull, nameBytesFull}
 use Rattle.paper.specs.Lists.{empty, all, any, joined, firstSeen, positionOf, same, sum, cut}
-use Rattle.paper.specs.Text.Scalar.{utf8}
+use Rattle.paper.specs.Text.Scalar.{utf8, lf}
 use Rattle.paper.specs.CharDef.Line.{Line, blank, category, range}
-use Rattle.paper.specs.CharDef.Reading.{Definition, Range, Reading, namesOf, definitionsOf, rangesOf, readingOf, nameBytes, references, Within, joinLF, noLF, EachFits, done, next, isLF, accepted, refused}
+use Rattle.paper.specs.CharDef.Reading.{Definition, Range, Reading, namesOf, definitionsOf, rangesOf, readingOf, nameBytes, references, Within, joinLF, noLF, EachFits, done, next, isLF, accepted}
 use Rattle.paper.specs.Computed.ReadText.{Found, found, wrong, lineOf, Step, go-on, stop, Interned, names-are, full-at, internOne, afterOne, intern, addRange, addDefinition, enter, enterFound, afterLine, readLines}
-use Rattle.paper.proofs.Lists.Facts.{T→false, cut-run, pushAll-first}
+use Rattle.paper.proofs.Apart.{full-names, stop-go, refused-accepted}
+use Rattle.paper.proofs.Lists.Facts.{T→false, cut-run, pushAll-first, false→T, all-left, all-right, map-append, joined-map, sum-append}
 use Rattle.paper.proofs.Lists.Seen.{same-eq, same-refl, seen-snoc, seen-append, seen-has, position-stays}
+use Rattle.paper.proofs.Lists.Pieces.{Pieces, last, then}
 use Rattle.paper.proofs.CharDef.Complete.{line-complete}
-use Rattle.paper.proofs.CharDef.Sound.{line-sound, Pieces, last, then, all-left, all-right, false→T, zero-one}
+use Rattle.paper.proofs.CharDef.Sound.{line-sound}
 
 -- ---- lists
 
-pub map-append : {A B : Type 0} (f : A → B) (s t : List A) → map f (s ++ t) ≡ map f s ++ map f t
-map-append f [] t = refl
-map-append f (x ∷ s) t = ap (λ l. f x ∷ l) (map-append f s t)
-
-joined-append : {A : Type 0} (s t : List (List A)) → joined (s ++ t) ≡ joined s ++ joined t
-joined-append [] t = refl
-joined-append (x ∷ s) t = ap (λ l. x ++ l) (joined-append s t) ∙ sym (append-assoc x (joined s) (joined t))
-
-joined-map : {A B : Type 0} (f : A → List B) (s t : List A) → joined (map f (s ++ t)) ≡ joined (map f s) ++ joined (map f t)
-joined-map f s t = ap joined (map-append f s t) ∙ joined-append (map f s) (map f t)
-
 joined-snoc : {A B : Type 0} (f : A → List B) (s : List A) (x : A) → joined (map f (s ++ (x ∷ []))) ≡ joined (map f s) ++ f x
 joined-snoc f s x = joined-map f s (x ∷ []) ∙ ap (λ l. joined (map f s) ++ l) (append-nil (f x))
-
-sum-append : (s t : List ℕ) → sum (s ++ t) ≡ sum s + sum t
-sum-append [] t = omega arith
-sum-append (x ∷ s) t = ap (λ n. x + n) (sum-append s t) ∙ sym (add-assoc x (sum s) (sum t))
 
 bytes-append : (s t : List (List ℕ)) → nameBytes (s ++ t) ≡ nameBytes s + nameBytes t
 unfolding nameBytes
@@ -49,15 +37,12 @@ references-append s t = ap sum (map-append (λ r. length (r .categories)) s t) �
 
 -- ---- names
 
-full-names {ℓ} : {X : Type ℓ} {n : ℕ} {m : List (List ℕ)} → full-at n ≡ names-are m → X
-full-names e = zero-one (cc)
-
 abbrev seen : List (List ℕ) → List (List ℕ)
 seen xs = firstSeen same xs
 
 pub record Small (names : List (List ℕ)) : Type 0 where
-  pub few : length names ≤ 512
-  pub short : nameBytes names ≤ 16384
+  pub few : length names ≤ maxCategories
+  pub short : nameBytes names ≤ maxNameBytes
 
 length-one : (ns : List (List ℕ)) (n : List ℕ) → length (ns ++ (n ∷ [])) ≡ length ns + 1
 length-one ns n = length-append ns (n ∷ [])
@@ -70,13 +55,13 @@ one-sound : (xs : List (List ℕ)) (n : List ℕ) (m : List (List ℕ)) → Smal
     → (m ≡ seen (xs ++ (n ∷ []))) × Small m
 unfolding internOne
 one-sound xs n m small h =
-    go (any (same n) S) (leb 512 (length S)) (ltb 16384 (nameBytes S + length n)) refl refl refl h
+    go (any (same n) S) (leb maxCategories (length S)) (ltb maxNameBytes (nameBytes S + length n)) refl refl refl h
   where
     S : List (List ℕ)
     S = seen xs
 
-    go : (a b c : Bool) → any (same n) S ≡ a → leb 512 (length S) ≡ b → ltb 16384 (nameBytes S + length n) ≡ c
-        → cond a (names-are S) (cond b (full-at 12) (cond c (full-at 13) (names-are (S ++ (n ∷ []))))) ≡ names-are m
+    go : (a b c : Bool) → any (same n) S ≡ a → leb maxCategories (length S) ≡ b → ltb maxNameBytes (nameBytes S + length n) ≡ c
+        → cond a (names-are S) (cond b (full-at categoriesFull) (cond c (full-at nameBytesFull) (names-are (S ++ (n ∷ []))))) ≡ names-are m
         → (m ≡ seen (xs ++ (n ∷ []))) × Small m
     go true b c ea eb ec h =
         let e : m ≡ S = cc in
@@ -85,8 +70,8 @@ one-sound xs n m small h =
     go false false true ea eb ec h = full-names h
     go false false false ea eb ec h =
         let e : m ≡ S ++ (n ∷ []) = cc in
-        let lb : length S < 512 = leb-no (false→T _ eb) in
-        let bb : nameBytes S + length n ≤ 16384 = ltb-no (false→T _ ec) in (
+        let lb : length S < maxCategories = leb-no (false→T _ eb) in
+        let bb : nameBytes S + length n ≤ maxNameBytes = ltb-no (false→T _ ec) in (
           e ∙ sym (seen-snoc same same-eq xs n ∙ rw ea),
           rw e (record { few = rw (length-one S n) (omega arith); short = rw (bytes-one S n) bb }),
         )
@@ -99,14 +84,14 @@ one-complete xs n small = rw (seen-snoc same same-eq xs n) (go (any (same n) S) 
     S = seen xs
 
     go : (a : Bool) → any (same n) S ≡ a → Small (cond a S (S ++ (n ∷ [])))
-        → cond a (names-are S) (cond (leb 512 (length S)) (full-at 12) (cond (ltb 16384 (nameBytes S + length n)) (full-at 13) (names-are (S ++ (n ∷ [])))))
+        → cond a (names-are S) (cond (leb maxCategories (length S)) (full-at categoriesFull) (cond (ltb maxNameBytes (nameBytes S + length n)) (full-at nameBytesFull) (names-are (S ++ (n ∷ [])))))
         ≡ names-are (cond a S (S ++ (n ∷ [])))
     go true e s = refl
     go false e s =
-        let few : length S + 1 ≤ 512 = rw (length-one S n) at (s .few) in
-        let short : nameBytes S + length n ≤ 16384 = rw (bytes-one S n) at (s .short) in
-        let less : length S < 512 = omega arith in
-        rw (T→false (leb 512 (length S)) (no-leb less), T→false (ltb 16384 (nameBytes S + length n)) (no-ltb short))
+        let few : length S + 1 ≤ maxCategories = rw (length-one S n) at (s .few) in
+        let short : nameBytes S + length n ≤ maxNameBytes = rw (bytes-one S n) at (s .short) in
+        let less : length S < maxCategories = omega arith in
+        rw (T→false (leb maxCategories (length S)) (no-leb less), T→false (ltb maxNameBytes (nameBytes S + length n)) (no-ltb short))
 
 intern-sound : (ns xs m : List (List ℕ)) → Small (seen xs) → intern ns (seen xs) ≡ names-are m → (m ≡ seen (xs ++ ns)) × Small m
 unfolding intern
@@ -127,10 +112,10 @@ intern-sound (n ∷ ns) xs m small h = go (internOne (seen xs) n) refl h (λ k s
 small-prefix : (xs ys : List (List ℕ)) → Small (seen (xs ++ ys)) → Small (seen xs)
 small-prefix xs ys s =
     let (more, e) = seen-append same same-eq xs ys in
-    let few : length (seen xs ++ more) ≤ 512 = rw e at (s .few) in
-    let short : nameBytes (seen xs ++ more) ≤ 16384 = rw e at (s .short) in
-    let few′ : length (seen xs) + length more ≤ 512 = rw length-append at few in
-    let short′ : nameBytes (seen xs) + nameBytes more ≤ 16384 = rw bytes-append at short in
+    let few : length (seen xs ++ more) ≤ maxCategories = rw e at (s .few) in
+    let short : nameBytes (seen xs ++ more) ≤ maxNameBytes = rw e at (s .short) in
+    let few′ : length (seen xs) + length more ≤ maxCategories = rw length-append at few in
+    let short′ : nameBytes (seen xs) + nameBytes more ≤ maxNameBytes = rw bytes-append at short in
     record { few = omega arith; short = omega arith }
 
 intern-complete : (ns xs : List (List ℕ)) → Small (seen (xs ++ ns)) → intern ns (seen xs) ≡ names-are (seen (xs ++ ns))
@@ -198,16 +183,13 @@ within-prefix : (ls ms : List Line) → Within (readingOf (ls ++ ms)) → Within
 within-prefix ls ms w =
     let v = rw (reading-append ls ms) at w in
     let s = small-prefix (N ls) (N ms) (record { few = v .categories-fit; short = v .names-fit }) in
-    let d : length (D ls) + length (D ms) ≤ 512 = rw length-append at (v .definitions-fit) in
-    let r : length (R (seen (N ls)) ls) + length (R (seen (N ls ++ N ms)) ms) ≤ 2048 = rw length-append at (v .ranges-fit) in
-    let f : references (R (seen (N ls)) ls) + references (R (seen (N ls ++ N ms)) ms) ≤ 8192 = rw references-append at (v .references-fit) in
+    let d : length (D ls) + length (D ms) ≤ maxCategoryLines = rw length-append at (v .definitions-fit) in
+    let r : length (R (seen (N ls)) ls) + length (R (seen (N ls ++ N ms)) ms) ≤ maxRanges = rw length-append at (v .ranges-fit) in
+    let f : references (R (seen (N ls)) ls) + references (R (seen (N ls ++ N ms)) ms) ≤ maxReferences = rw references-append at (v .references-fit) in
     rw (reading-is ls)
     (record { categories-fit = s .few; names-fit = s .short; definitions-fit = omega arith; ranges-fit = omega arith; references-fit = omega arith })
 
 -- ---- one more line
-
-stop-go {ℓ} : {X : Type ℓ} {n : ℕ} {r : Reading} → stop n ≡ go-on r → X
-stop-go e = zero-one (cc)
 
 reading-snoc : (ls : List Line) (l : Line)
     → readingOf (ls ++ (l ∷ [])) ≡ mk (seen (N ls ++ namesOf l)) (D ls ++ definitionsOf l) (R (seen (N ls)) ls ++ rangesOf (seen (N ls ++ namesOf l)) l)
@@ -237,20 +219,20 @@ module _ (ls : List Line) where
       → Within (mk (seen (N ls)) (D ls) (R (seen (N ls)) ls)) → enter (mk (seen (N ls)) (D ls) (R (seen (N ls)) ls)) (category name i g len) ≡ go-on r
       → (r ≡ mk (seen (N ls ++ (utf8 name ∷ []))) (D ls ++ (record { invoke = i; group = g; len = len } ∷ [])) (R (seen (N ls)) ls)) × Within r
   unfolding enter
-  category-sound name i g len r w h = go (leb 512 (length (D ls))) refl (intern (utf8 name ∷ []) (seen (N ls))) refl h
+  category-sound name i g len r w h = go (leb maxCategoryLines (length (D ls))) refl (intern (utf8 name ∷ []) (seen (N ls))) refl h
     where
       d : Definition
       d = record { invoke = i; group = g; len = len }
 
-      go : (a : Bool) → leb 512 (length (D ls)) ≡ a → (o : Interned) → intern (utf8 name ∷ []) (seen (N ls)) ≡ o
-          → cond a (stop 11) (addDefinition o (mk (seen (N ls)) (D ls) (R (seen (N ls)) ls)) d) ≡ go-on r
+      go : (a : Bool) → leb maxCategoryLines (length (D ls)) ≡ a → (o : Interned) → intern (utf8 name ∷ []) (seen (N ls)) ≡ o
+          → cond a (stop categoryLinesFull) (addDefinition o (mk (seen (N ls)) (D ls) (R (seen (N ls)) ls)) d) ≡ go-on r
           → (r ≡ mk (seen (N ls ++ (utf8 name ∷ []))) (D ls ++ (d ∷ [])) (R (seen (N ls)) ls)) × Within r
       go true a o e h = stop-go h
       go false a (full-at n) e h = stop-go h
       go false a (names-are m) e h =
           let (em, s) = intern-sound (utf8 name ∷ []) (N ls) m (record { few = w .categories-fit; short = w .names-fit }) e in
           let er : r ≡ mk m (D ls ++ (d ∷ [])) (R (seen (N ls)) ls) = cc in
-          let less : length (D ls) < 512 = leb-no (false→T _ a) in (
+          let less : length (D ls) < maxCategoryLines = leb-no (false→T _ a) in (
             er ∙ ap (λ ns. mk ns (D ls ++ (d ∷ [])) (R (seen (N ls)) ls)) em,
             rw er (record { categories-fit = s .few; names-fit = s .short; definitions-fit = rw (length-one-of (D ls) d) (omega arith); ranges-fit = w .ranges-fit; references-fit = w .references-fit }),
           )
@@ -262,14 +244,14 @@ module _ (ls : List Line) where
       × Within r
   unfolding enter
   range-sound lower upper names r w h =
-      go (leb 2048 (length (R (seen (N ls)) ls))) refl (ltb 8192 (references (R (seen (N ls)) ls) + length names)) refl (intern (map utf8 names) (seen (N ls))) refl h
+      go (leb maxRanges (length (R (seen (N ls)) ls))) refl (ltb maxReferences (references (R (seen (N ls)) ls) + length names)) refl (intern (map utf8 names) (seen (N ls))) refl h
     where
       g : List (List ℕ) → Range
       g ns = record { lower = lower; upper = upper; categories = map (λ n. positionOf same n ns) (map utf8 names) }
 
-      go : (a : Bool) → leb 2048 (length (R (seen (N ls)) ls)) ≡ a → (b : Bool) → ltb 8192 (references (R (seen (N ls)) ls) + length names) ≡ b
+      go : (a : Bool) → leb maxRanges (length (R (seen (N ls)) ls)) ≡ a → (b : Bool) → ltb maxReferences (references (R (seen (N ls)) ls) + length names) ≡ b
           → (o : Interned) → intern (map utf8 names) (seen (N ls)) ≡ o
-          → cond a (stop 9) (cond b (stop 10) (addRange o (mk (seen (N ls)) (D ls) (R (seen (N ls)) ls)) lower upper (map utf8 names))) ≡ go-on r
+          → cond a (stop rangesFull) (cond b (stop referencesFull) (addRange o (mk (seen (N ls)) (D ls) (R (seen (N ls)) ls)) lower upper (map utf8 names))) ≡ go-on r
           → (r ≡ mk (seen (N ls ++ map utf8 names)) (D ls) (R (seen (N ls)) ls ++ (g (seen (N ls ++ map utf8 names)) ∷ []))) × Within r
       go true a b eb o e h = stop-go h
       go false a true eb o e h = stop-go h
@@ -277,8 +259,8 @@ module _ (ls : List Line) where
       go false a false eb (names-are m) e h =
           let (em, s) = intern-sound (map utf8 names) (N ls) m (record { few = w .categories-fit; short = w .names-fit }) e in
           let er : r ≡ mk m (D ls) (R (seen (N ls)) ls ++ (g m ∷ [])) = cc in
-          let less : length (R (seen (N ls)) ls) < 2048 = leb-no (false→T _ a) in
-          let refs : references (R (seen (N ls)) ls) + length names ≤ 8192 = ltb-no (false→T _ eb) in (
+          let less : length (R (seen (N ls)) ls) < maxRanges = leb-no (false→T _ a) in
+          let refs : references (R (seen (N ls)) ls) + length names ≤ maxReferences = ltb-no (false→T _ eb) in (
             er ∙ ap (λ ns. mk ns (D ls) (R (seen (N ls)) ls ++ (g ns ∷ []))) em,
             rw er (record {
               categories-fit = s .few;
@@ -307,31 +289,28 @@ unfolding namesOf definitionsOf rangesOf enter
 enter-complete ls blank w = ap go-on (sym (enter-blank ls))
 enter-complete ls (category name i g len) w =
     let v = rw (reading-snoc ls (category name i g len)) at w in
-    let d : length (D ls) + 1 ≤ 512 = rw length-append at (v .definitions-fit) in
-    let less : length (D ls) < 512 = omega arith in
+    let d : length (D ls) + 1 ≤ maxCategoryLines = rw length-append at (v .definitions-fit) in
+    let less : length (D ls) < maxCategoryLines = omega arith in
     ap (λ s. enter s (category name i g len)) (reading-is ls)
-    ∙ rw (T→false (leb 512 (length (D ls))) (no-leb less), intern-complete (utf8 name ∷ []) (N ls) (record { few = v .categories-fit; short = v .names-fit }))
+    ∙ rw (T→false (leb maxCategoryLines (length (D ls))) (no-leb less), intern-complete (utf8 name ∷ []) (N ls) (record { few = v .categories-fit; short = v .names-fit }))
     (ap go-on (sym (reading-snoc ls (category name i g len) ∙ rw (append-nil (R (seen (N ls)) ls)))))
 enter-complete ls (range lower upper names) w =
     let v = rw (reading-snoc ls (range lower upper names)) at w in
     let S′ : List (List ℕ) = seen (N ls ++ map utf8 names) in
     let cats : List ℕ = map (λ n. positionOf same n S′) (map utf8 names) in
-    let d : length (R (seen (N ls)) ls) + 1 ≤ 2048 = rw length-append at (v .ranges-fit) in
-    let less : length (R (seen (N ls)) ls) < 2048 = omega arith in
-    let refs : references (R (seen (N ls)) ls) + length names ≤ 8192 =
+    let d : length (R (seen (N ls)) ls) + 1 ≤ maxRanges = rw length-append at (v .ranges-fit) in
+    let less : length (R (seen (N ls)) ls) < maxRanges = omega arith in
+    let refs : references (R (seen (N ls)) ls) + length names ≤ maxReferences =
     rw (references-one (R (seen (N ls)) ls) lower upper cats, numbered S′ names) at (v .references-fit) in
     ap (λ s. enter s (range lower upper names)) (reading-is ls)
     ∙ rw (
-      T→false (leb 2048 (length (R (seen (N ls)) ls))) (no-leb less),
-      T→false (ltb 8192 (references (R (seen (N ls)) ls) + length names)) (no-ltb refs),
+      T→false (leb maxRanges (length (R (seen (N ls)) ls))) (no-leb less),
+      T→false (ltb maxReferences (references (R (seen (N ls)) ls) + length names)) (no-ltb refs),
       intern-complete (map utf8 names) (N ls) (record { few = v .categories-fit; short = v .names-fit }),
     )
     (ap go-on (sym (reading-snoc ls (range lower upper names) ∙ rw (append-nil (D ls)))))
 
 -- ---- all lines
-
-pub refused-accepted {ℓ} : {X : Type ℓ} {n k : ℕ} {r : Reading} → refused n k ≡ accepted r → X
-refused-accepted e = zero-one (cc)
 
 pub lines-sound : (css : List (List ℕ)) (k : ℕ) (ls : List Line) (r : Reading) → Within (readingOf ls) → readLines k css (readingOf ls) ≡ accepted r
     → (ms : List Line) × EachFits css ms × (r ≡ readingOf (ls ++ ms)) × Within r
@@ -378,7 +357,7 @@ cut-joined (l ∷ []) n a =
     ap (cut isLF) (sym (append-nil l)) ∙ cut-run isLF l [] (h .0) ∙ pushAll-first isLF l []
 cut-joined (l ∷ m ∷ css) n a =
     let h = and-yes (noLF l) (all noLF (m ∷ css)) a in
-    cut-run isLF l (10 ∷ joinLF (m ∷ css)) (h .0)
+    cut-run isLF l (lf ∷ joinLF (m ∷ css)) (h .0)
     ∙ pushAll-first isLF l (cut isLF (joinLF (m ∷ css)))
     ∙ ap (λ x. l ∷ x) (cut-joined (m ∷ css) tt (h .1))
 
@@ -386,6 +365,6 @@ pub pieces-joined : {cs : List ℕ} {css : List (List ℕ)} → Pieces isLF cs c
 pieces-joined {cs} (last a) = (refl, tt, yes-and (noLF cs) true a tt)
 pieces-joined (then {l = l} {ls = m ∷ css} s r e a t q) =
     let (e′, n, b) = pieces-joined q in
-    let ten : s ≡ 10 = eqb→eq s 10 t in
-    (e ∙ ap₂ (λ x y. l ++ (x ∷ y)) ten e′, tt, yes-and (noLF l) (all noLF (m ∷ css)) a b)
+    let is-lf : s ≡ lf = eqb→eq s lf t in
+    (e ∙ ap₂ (λ x y. l ++ (x ∷ y)) is-lf e′, tt, yes-and (noLF l) (all noLF (m ∷ css)) a b)
 pieces-joined (then {l = l} {ls = []} s r e a t q) = absurd (pieces-joined q .1)

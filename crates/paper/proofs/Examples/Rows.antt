@@ -8,10 +8,11 @@ use mathlib.Core.Option.{none, some}
 use lib.ListN.{replicate}
 use Rattle.paper.specs.Sizes.{bmpSize}
 use Rattle.paper.specs.Refusals.{notScalar, numberUnknown, flatRowLong, tableRoomShort, packRoomShort, tablesApart}
+use Rattle.paper.specs.Lists.{offsetsFrom}
 use Rattle.paper.specs.CharDef.Reading.{Reading}
 use Rattle.paper.specs.Rows.Covering.{boundaries, rows}
-use Rattle.paper.specs.Rows.Flat.{entry, entryOffset, entryLength, rowNumber, flatEntry, entryPart, shortRows, counting, flatPool}
-use Rattle.paper.specs.Rows.Build.{built, refusedBy, rowsBuilt, flatBuilt, packWritten, offsets}
+use Rattle.paper.specs.Rows.Flat.{entryOf, entryOffset, entryLength, rowNumber, flatEntry, entryPart, shortRows, counting, flatPool}
+use Rattle.paper.specs.Rows.Build.{built, refusedBy, rowsBuilt, flatBuilt, packWritten}
 use Rattle.paper.specs.Rows.Lookup.{Looked, gives, refuses, LookupTables, ofFlat, ofRows, Part, lookup, packedAt}
 use Rattle.paper.specs.Rows.Numbers.{findName, lookupDefinition, categoryName}
 use Rattle.paper.proofs.Examples.CharDef.{Example, Holds, All, ex, names-at, rows-are, boundaries-are}
@@ -76,15 +77,15 @@ pub entries : map (flatEntry two-lines) (0x40 ∷ 0x41 ∷ 0x42 ∷ 0x43 ∷ [])
 unfolding flatEntry two-lines
 entries = refl
 
-pub entry-split : (entry 3 2 ≡ 0x302) × (entryOffset 0x302 ≡ 3) × (entryLength 0x302 ≡ 2)
+pub entry-split : (entryOf 3 2 ≡ 0x302) × (entryOffset 0x302 ≡ 3) × (entryLength 0x302 ≡ 2)
 entry-split = (refl, refl, refl)
 
 pub parts : map (λ c. entryPart (flatEntry two-lines c) (flatPool two-lines)) (0x41 ∷ 0x42 ∷ 0x43 ∷ []) ≡ (0 ∷ 1 ∷ 2 ∷ []) ∷ (1 ∷ 2 ∷ []) ∷ [] ∷ []
 unfolding flatEntry entryPart flatPool two-lines
 parts = refl
 
-pub starts : offsets 0 (rows two-lines) ≡ 0 ∷ 0 ∷ 3 ∷ 5 ∷ []
-unfolding offsets rows two-lines
+pub starts : offsetsFrom 0 (rows two-lines) ≡ 0 ∷ 0 ∷ 3 ∷ 5 ∷ []
+unfolding rows two-lines
 starts = refl
 
 -- 255 categories in a row, and 256

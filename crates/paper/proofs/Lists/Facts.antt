@@ -1,15 +1,16 @@
 -- Facts on tests and on cuts of lists, over any test.
 -- Assumes nothing.
-use Prim.Native.Nat.{ℕ, zero, suc, _<_}
-use native.Mathlib.Nat.{not-suc-le-zero}
+use Prim.Native.Nat.{ℕ, zero, suc, _<_, _+_}
+use native.Mathlib.Nat.{not-suc-le-zero, add-assoc}
 use native.Mathlib.Omega.{arith}
 use native.Mathlib.Decide.{ℕ-discrete}
 use mathlib.Core.Path.{_≡_, refl, sym, ap, _∙_, subst}
 use mathlib.Core.Bool.{Bool, true, false, not, cond, _&&_, _||_}
-use mathlib.Core.List.{List, [], _∷_, _++_}
+use mathlib.Core.List.{List, [], _∷_, _++_, map, append-assoc}
 use lib.Dec.{T, eqb, eqb→eq}
+use lib.ListN.{length, length-append}
 use mir.Facts.{and-yes, yes-and, not-T}
-use Rattle.paper.specs.Lists.{empty, all, full, nothingOr, push, cut, words, until, trimStart, trimEnd}
+use Rattle.paper.specs.Lists.{empty, all, full, nothingOr, push, cut, words, until, trimStart, trimEnd, any, joined, sum, offsetsFrom}
 
 pub T→true : (b : Bool) → T b → b ≡ true
 T→true true t = refl
@@ -22,6 +23,10 @@ T→false false t = refl
 pub true→T : (b : Bool) → b ≡ true → T b
 true→T true e = tt
 true→T false e = subst T (sym e) tt
+
+pub false→T : (b : Bool) → b ≡ false → T (not b)
+false→T true e = subst (λ b. T (not b)) (sym e) tt
+false→T false e = tt
 
 pub or-left : (a b : Bool) → T a → T (a || b)
 or-left true b t = tt
@@ -55,6 +60,22 @@ module _ {A : Type 0} (p : A → Bool) where
   all-append (x ∷ s) t a b =
       let h = and-yes (p x) (all p s) a in
       yes-and (p x) (all p (s ++ t)) (h .0) (all-append s t (h .1) b)
+
+  pub all-left : (s t : List A) → T (all p (s ++ t)) → T (all p s)
+  all-left [] t a = tt
+  all-left (x ∷ s) t a = let h = and-yes (p x) (all p (s ++ t)) a in yes-and (p x) (all p s) (h .0) (all-left s t (h .1))
+
+  pub all-right : (s t : List A) → T (all p (s ++ t)) → T (all p t)
+  all-right [] t a = a
+  all-right (x ∷ s) t a = all-right s t (and-yes (p x) (all p (s ++ t)) a .1)
+
+  pub any-append : (s t : List A) → any p (s ++ t) ≡ (any p s || any p t)
+  any-append [] t = refl
+  any-append (x ∷ s) t = go (p x) (any-append s t)
+    where
+      go : (b : Bool) → any p (s ++ t) ≡ (any p s || any p t) → (b || any p (s ++ t)) ≡ (b || any p s || any p t)
+      go true ih = refl
+      go false ih = ih
 
   pub full-all : (s : List A) → T (full p s) → T (all p s)
   full-all [] a = absurd a
@@ -124,6 +145,31 @@ module _ {A : Type 0} (p : A → Bool) where
   trimEnd-append [] y w a b = trimEnd-solid y w a b
   trimEnd-append (c ∷ x) y w a b =
       trimEnd-front c (x ++ (y ++ w)) (x ++ y) (trimEnd-append x y w a b) (append-some x y (full-some y a))
+
+-- ---- lists one behind another
+
+pub map-append : {A B : Type 0} (f : A → B) (s t : List A) → map f (s ++ t) ≡ map f s ++ map f t
+map-append f [] t = refl
+map-append f (x ∷ s) t = ap (λ l. f x ∷ l) (map-append f s t)
+
+pub joined-append : {A : Type 0} (s t : List (List A)) → joined (s ++ t) ≡ joined s ++ joined t
+joined-append [] t = refl
+joined-append (x ∷ s) t = ap (λ l. x ++ l) (joined-append s t) ∙ sym (append-assoc x (joined s) (joined t))
+
+pub joined-map : {A B : Type 0} (f : A → List B) (s t : List A) → joined (map f (s ++ t)) ≡ joined (map f s) ++ joined (map f t)
+joined-map f s t = ap joined (map-append f s t) ∙ joined-append (map f s) (map f t)
+
+pub sum-append : (s t : List ℕ) → sum (s ++ t) ≡ sum s + sum t
+sum-append [] t = omega arith
+sum-append (x ∷ s) t = ap (λ n. x + n) (sum-append s t) ∙ sym (add-assoc x (sum s) (sum t))
+
+pub joined-length : {A : Type 0} (ls : List (List A)) → length (joined ls) ≡ sum (map length ls)
+joined-length [] = refl
+joined-length (l ∷ ls) = length-append l (joined ls) ∙ ap (λ n. length l + n) (joined-length ls)
+
+pub offsets-length : {A : Type 0} (at : ℕ) (ls : List (List A)) → length (offsetsFrom at ls) ≡ length ls
+offsets-length at [] = refl
+offsets-length at (l ∷ ls) = ap suc (offsets-length (at + length l) ls)
 
 -- ---- words
 

@@ -16,9 +16,9 @@ use Rattle.paper.specs.Lists.{full}
 use Rattle.paper.specs.Text.Scalar.{minusSign}
 use Rattle.paper.specs.Numbers.Numeral.{isDigit, Numeral, Spelled, Integer, pos, neg, SignedNumeral, noDigit, modulus16, half16, wrap16, meaning16, Congruent, Short16}
 use Rattle.paper.specs.Computed.Numeral.{spelledBy, numeral, asNeg, asPos, signedNumeral}
+use Rattle.paper.proofs.Apart.{none-some, nil-cons}
 use Rattle.paper.proofs.Lists.Facts.{T→true, T→false}
-use Rattle.paper.proofs.CharDef.Sound.{zero-one, spelled-sound, numeral-sound}
-use Rattle.paper.proofs.CharDef.Complete.{digit-apart, numeral-chars, numeral-read}
+use Rattle.paper.proofs.Numbers.Read.{spelled-sound, numeral-sound, digit-apart, numeral-chars, numeral-read}
 
 -- ---- digits
 
@@ -35,9 +35,6 @@ spelled base limit ds n =
 
 pub unsigned : (base limit : ℕ) → base ≤ noDigit → (cs : List ℕ) (n : ℕ) → (numeral base limit cs ≡ some n) ↔ Numeral base limit cs n
 unsigned base limit b16 cs n = (numeral-sound base limit cs n, λ s. numeral-read base limit b16 s)
-
-pub none-some {ℓ κ} : {X : Type ℓ} {A : Type κ} {a : A} → none ≡ some a → X
-none-some e = zero-one (cc)
 
 -- nothing is read exactly where there is no such numeral
 pub unsigned-none : (base limit : ℕ) → base ≤ noDigit → (cs : List ℕ) → (numeral base limit cs ≡ none) ↔ ((n : ℕ) → Numeral base limit cs n → ⊥)
@@ -56,9 +53,6 @@ unsigned-one base limit b16 cs m n r s =
     cc
 
 -- ---- a sign
-
-nil-minus {ℓ} : {X : Type ℓ} {l : List ℕ} → [] ≡ minusSign ∷ l → X
-nil-minus e = zero-one (cc)
 
 module _ (base top low : ℕ) (b16 : base ≤ noDigit) where
   signed-sound : (cs : List ℕ) (i : Integer) → signedNumeral base top low cs ≡ some i → SignedNumeral base top low cs i
@@ -88,7 +82,7 @@ module _ (base top low : ℕ) (b16 : base ≤ noDigit) where
   signed-complete (c ∷ cs) (pos n) s =
       let t = numeral-chars base top b16 (λ c. not (eqb c minusSign)) tt (λ c t. digit-apart base minusSign b16 (unfold isDigit in refl) c t) s in
       rw (T→false (eqb c minusSign) (and-yes (not (eqb c minusSign)) _ t .0), numeral-read base top b16 s)
-  signed-complete [] (neg n) s = nil-minus (s .whole)
+  signed-complete [] (neg n) s = nil-cons (s .whole)
   signed-complete (c ∷ cs) (neg n) s =
       let e : c ≡ minusSign = (let w : c ∷ cs ≡ minusSign ∷ s .digits = s .whole in cc) in
       let d : cs ≡ s .digits = (let w : c ∷ cs ≡ minusSign ∷ s .digits = s .whole in cc) in

@@ -12,10 +12,10 @@ use lib.Pow.{pow-add}
 use mir.Facts.{and-yes, yes-and, ltb-yes, yes-ltb}
 use Rattle.paper.specs.Lists.{all}
 use Rattle.paper.specs.Numbers.Bytes.{isByte}
-use Rattle.paper.specs.Pack.Fields.{byteWidth, Field, field, bits, fieldBits, spell, bytesOf, byte, inBytes}
-use Rattle.paper.specs.Computed.ReadPack.{unpackBits, Taken, short, taken, takeNumber, consTaken, afterByte, takeBytes, isPadding}
-use Rattle.paper.proofs.Lists.Facts.{all-append}
-use Rattle.paper.proofs.CharDef.Sound.{zero-one, all-left, all-right}
+use Rattle.paper.specs.Pack.Fields.{byteWidth, Field, field, bits, fieldBits, spell, bytesOf, byte, inBytes, bitsOf}
+use Rattle.paper.specs.Computed.ReadPack.{Taken, short, taken, takeNumber, consTaken, afterByte, takeBytes, isPadding}
+use Rattle.paper.proofs.Apart.{short-taken}
+use Rattle.paper.proofs.Lists.Facts.{all-append, all-left, all-right}
 
 abbrev pub isBit : ℕ → Bool
 isBit b = ltb b 2
@@ -35,9 +35,9 @@ pub spell-bits : (fs : List Field) → T (all isBit (spell fs))
 spell-bits [] = tt
 spell-bits (f ∷ fs) = all-append isBit (fieldBits f) (spell fs) (bits-are (f .0) (f .1)) (spell-bits fs)
 
-pub unpack-bits : (p : List ℕ) → T (all isBit (unpackBits p))
+pub unpack-bits : (p : List ℕ) → T (all isBit (bitsOf p))
 unpack-bits [] = tt
-unpack-bits (b ∷ p) = all-append isBit (bits byteWidth b) (unpackBits p) (bits-are byteWidth b) (unpack-bits p)
+unpack-bits (b ∷ p) = all-append isBit (bits byteWidth b) (bitsOf p) (bits-are byteWidth b) (unpack-bits p)
 
 -- ---- a number
 
@@ -54,9 +54,6 @@ take-bits (suc w) n s =
 
 pub number-taken : (w n : ℕ) (s : List ℕ) → n < 2 ^ w → takeNumber w 0 (bits w n ++ s) ≡ taken n s
 number-taken w n s h = ap (λ v. takeNumber w v (bits w n ++ s)) (sym (div-eq-of-lt h)) ∙ take-bits w n s
-
-pub short-taken {ℓ} : {X : Type ℓ} {A : Type 0} {a : A} {s : List ℕ} → short ≡ taken a s → X
-short-taken e = zero-one (cc)
 
 low-half : (a b : ℕ) → b < 2 → (a * 2 + b) / 2 ≡ a
 low-half a b h = omega arith
@@ -166,7 +163,7 @@ byte-of b h =
     same-number : (v b : ℕ) → taken v [] ≡ taken b [] → v ≡ b
     same-number v b e = cc
 
-pub inBytes-unpack : (p : List ℕ) → T (all isByte p) → inBytes (unpackBits p) ≡ p
+pub inBytes-unpack : (p : List ℕ) → T (all isByte p) → inBytes (bitsOf p) ≡ p
 unfolding inBytes
 inBytes-unpack [] t = refl
 inBytes-unpack (b ∷ p) t =
@@ -184,7 +181,7 @@ zeros-are (x ∷ s) t =
     let g = and-yes (eqb 0 x) (all (eqb 0) s) t in
     ap₂ (λ y l. y ∷ l) (sym (eqb→eq 0 x (g .0))) (zeros-are s (g .1))
 
-pub unpack-inBytes : (l : List ℕ) → T (all isBit l) → (pad : List ℕ) × (unpackBits (inBytes l) ≡ l ++ pad) × T (isPadding pad)
+pub unpack-inBytes : (l : List ℕ) → T (all isBit l) → (pad : List ℕ) × (bitsOf (inBytes l) ≡ l ++ pad) × T (isPadding pad)
 unfolding inBytes
 unpack-inBytes [] t = ([], refl, tt)
 unpack-inBytes (a ∷ []) t = (zeros 7, byte-unpack a 0 0 0 0 0 0 0 t, tt)
@@ -231,7 +228,7 @@ inBytes-pad (a ∷ b ∷ c ∷ d ∷ e ∷ f ∷ []) pad t h = ap (λ l. inBytes
 inBytes-pad (a ∷ b ∷ c ∷ d ∷ e ∷ f ∷ g ∷ []) pad t h = ap (λ l. inBytes (a ∷ b ∷ c ∷ d ∷ e ∷ f ∷ g ∷ l)) (pad-is 1 pad t (λ k. omega arith))
 inBytes-pad (a ∷ b ∷ c ∷ d ∷ e ∷ f ∷ g ∷ i ∷ s) pad t h = ap (λ l. byte a b c d e f g i ∷ l) (inBytes-pad s pad t (omega arith))
 
-pub unpack-length : (p : List ℕ) → length (unpackBits p) % byteWidth ≡ 0
+pub unpack-length : (p : List ℕ) → length (bitsOf p) % byteWidth ≡ 0
 unpack-length [] = refl
 unpack-length (b ∷ p) = let h = unpack-length p in omega arith
 

@@ -9,16 +9,15 @@ use mathlib.Core.List.{List, [], _∷_, _++_, append-assoc}
 use mathlib.Core.Option.{Option, none, some}
 use lib.Dec.{T}
 use lib.ListN.{length, length-append}
-use Rattle.paper.specs.Lists.{all}
 use Rattle.paper.specs.Refusals.{packEnds, packRule, packLeftOver}
+use Rattle.paper.specs.Lists.{all}
 use Rattle.paper.specs.Numbers.Bytes.{isByte}
 use Rattle.paper.specs.CharDef.Reading.{Reading, Answer, accepted, refused}
 use Rattle.paper.specs.Pack.Fields.{Field, field, bits, spell, packBytes}
 use Rattle.paper.specs.Pack.Rules.{PackRules}
 use Rattle.paper.specs.Pack.Broken.{Due, versionField, Next, due, end, width, refusal, Keeps, after, Begins, nothing-yet, one-more, Reaches, Fills, Broken, ends, breaks, adds-up-wrong, left-over, OnePack, OneBroken}
 use Rattle.paper.specs.Computed.ReadPack.{taken, takeNumber, readPack}
-use Rattle.paper.proofs.CharDef.Sound.{zero-one}
-use Rattle.paper.proofs.CharDef.Whole.{refused-accepted}
+use Rattle.paper.proofs.Apart.{zero-one, refused-accepted}
 use Rattle.paper.proofs.Pack.Size.{bits-length}
 use Rattle.paper.proofs.Pack.Bits.{number-taken}
 use Rattle.paper.proofs.Pack.Trip.{write-read, read-rules, read-write}

@@ -20,13 +20,13 @@ use Rattle.paper.specs.Pack.Rules.{isBound}
 use Rattle.paper.specs.Pack.Broken.{Head, Due, versionField, categoriesField, linesField, rangesField, referencesField, nameLengthField, nameField, invokeField, groupField, lengthField, lowerField, upperField, countField, numberField, Next, due, end, width, refusal, Keeps, rangesLeft, numbersLeft, definitionsLeft, namesLeft, after, nothing-yet, one-more, Reaches, Fills, Broken, ends, breaks, adds-up-wrong, left-over}
 use Rattle.paper.specs.Computed.ReadPack.{Taken, short, taken, takeNumber, consTaken, afterByte, takeBytes, Outcome, gave, broke, Reader, afterOutcome, _▹_, give, settle, fieldOr, number, free, bytesField, demand, isPadding, padding, many, lengthRule, nameRule, readName, readNames, readDefinition, countRule, readRange, readRanges, upTo, readBody, readCounted, readFields, readAll, readPack}
 use Rattle.paper.specs.Computed.Rules.{formed}
-use Rattle.paper.proofs.Lists.Facts.{true→T}
-use Rattle.paper.proofs.CharDef.Sound.{false→T}
+use Rattle.paper.proofs.Apart.{short-taken, broke-gave}
+use Rattle.paper.proofs.Lists.Facts.{true→T, false→T}
 use Rattle.paper.proofs.Pack.Size.{bits-length}
 use Rattle.paper.proofs.Pack.Rules.{formed-is, is-formed}
-use Rattle.paper.proofs.Pack.Bits.{isBit, spell-append, unpack-bits, short-taken, taken-number, number-short, bytes-taken, bytesOf-bits, bytesOf-length, bytesOf-bytes}
-use Rattle.paper.proofs.Pack.Trip.{broke-got, split, padding-is, answered}
-use Rattle.paper.proofs.Pack.Verdict.{got-broke, broke-same, settle-got, settle-broke, number-size, bytes-size, Stopped, stopped-of}
+use Rattle.paper.proofs.Pack.Bits.{isBit, spell-append, unpack-bits, taken-number, number-short, bytes-taken, bytesOf-bits, bytesOf-length, bytesOf-bytes}
+use Rattle.paper.proofs.Pack.Trip.{split, padding-is, answered}
+use Rattle.paper.proofs.Pack.Verdict.{broke-same, settle-got, settle-broke, number-size, bytes-size, Stopped, stopped-of}
 
 -- ---- what a field's bits say
 
@@ -104,7 +104,7 @@ module _ (p : List ℕ) where
       }
     where
       passes : (at : ℕ) (s : List ℕ) (b : B) (to : ℕ) (t : List ℕ) → P at s → (o : Outcome A) → r at s ≡ o → afterOutcome o k ≡ gave b to t → R b to t
-      passes at s b to t h (broke n m) d e = broke-got e
+      passes at s b to t h (broke n m) d e = broke-gave e
       passes at s b to t h (gave a m u) d e = g a .passes m u b to t (f .passes at s a m u h d) e
 
       refuses : (at : ℕ) (s : List ℕ) (n m : ℕ) → P at s → (o : Outcome A) → r at s ≡ o → afterOutcome o k ≡ broke n m → Broken p n m
@@ -113,7 +113,7 @@ module _ (p : List ℕ) where
 
   follows-give : {A : Type 0} {P : ℕ → List ℕ → Type 0} {Q : A → ℕ → List ℕ → Type 0} (a : A) → ((at : ℕ) (s : List ℕ) → P at s → Q a at s) → Follows P (give a) Q
   unfolding give
-  follows-give {A} {P} {Q} a f = record { passes = passes; refuses = λ at s n m h e. got-broke e }
+  follows-give {A} {P} {Q} a f = record { passes = passes; refuses = λ at s n m h e. broke-gave (sym e) }
     where
       passes : (at : ℕ) (s : List ℕ) (b : A) (to : ℕ) (t : List ℕ) → P at s → gave a at s ≡ gave b to t → Q b to t
       passes at s b to t h e =
@@ -302,11 +302,11 @@ module _ (p : List ℕ) where
           let em : at ≡ to = cc in
           let et : s ≡ t = cc in
           record { total = total; stands = subst (λ l. Stands (end total total) to l) et (subst (λ m. Stands (end total total) m s) em (subst (λ i. Stands (end i total) at s) en st)) }
-      passes at s a to t st false d e = broke-got e
+      passes at s a to t st false d e = broke-gave e
 
       refuses : (at : ℕ) (s : List ℕ) (i j : ℕ) → Stands (end n total) at s → (b : Bool) → eqb n total ≡ b
           → _≡_ {A = Outcome (Unit {0})} (cond b (gave tt at s) (broke packRule at)) (broke i j) → Broken p i j
-      refuses at s i j st true d e = got-broke e
+      refuses at s i j st true d e = broke-gave (sym e)
       refuses at s i j st false d e =
           let (ei, ej) = broke-same packRule at i j e in
           subst (λ i. Broken p i j) ei (subst (λ j. Broken p packRule j) ej (adds-up-wrong (st .reaches) (λ en. T-not (eqb n total) (yes-eqb en) (false→T _ d))))

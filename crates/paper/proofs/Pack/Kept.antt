@@ -8,10 +8,10 @@ use mathlib.Core.Bool.{Bool, true, false, not, cond, _&&_, _||_}
 use mathlib.Core.List.{List, [], _∷_, _++_, map}
 use lib.Dec.{T, leb, ltb, eqb, eqb→eq}
 use mir.Facts.{and-yes, yes-and, T-not, not-T, yes-leb, yes-ltb}
-use Rattle.paper.specs.Sizes.{maxU32}
+use Rattle.paper.specs.Sizes.{maxU32, maxU16}
 use Rattle.paper.specs.Lists.{all, full, any, joined, freshAfter, firstSeen, same}
-use Rattle.paper.specs.Text.Scalar.{lf, between, isScalar, utf8Of, utf8, WellFormed}
-use Rattle.paper.specs.CharDef.Line.{Line, blank, category, range, standsFor, Bound, Bounds, one, two, Names, no-names, more-names, isNameChar, isFieldChar, LineFits}
+use Rattle.paper.specs.Text.Scalar.{lf, between, isScalar, utf8Of, utf8, WellFormed, byteOrderMark, swappedMark, replacement, firstSurrogate, lastSurrogate}
+use Rattle.paper.specs.CharDef.Line.{Line, blank, category, range, standsFor, Bound, Bounds, one-bound, two-bounds, Names, no-names, more-names, isNameChar, isFieldChar, LineFits}
 use Rattle.paper.specs.CharDef.Reading.{Reading, namesOf, definitionsOf, rangesOf, readingOf, Within, joinLF, EachFits, done, next, Fits, accepted}
 use Rattle.paper.specs.Pack.Fields.{packBytes}
 use Rattle.paper.specs.Pack.Rules.{hasBytes, onceAfter, isBound, bounded, sized, PackRules}
@@ -19,8 +19,7 @@ use Rattle.paper.specs.Computed.Decode.{decode}
 use Rattle.paper.specs.Computed.ReadPack.{readPack}
 use Rattle.paper.specs.Computed.ReadText.{readText}
 use Rattle.paper.specs.Computed.Rules.{isText, formed}
-use Rattle.paper.proofs.Lists.Facts.{all-append, all-imp}
-use Rattle.paper.proofs.CharDef.Sound.{false→T, all-left, all-right}
+use Rattle.paper.proofs.Lists.Facts.{all-append, all-imp, false→T, all-left, all-right}
 use Rattle.paper.proofs.Text.Code.{decode-complete}
 use Rattle.paper.proofs.CharDef.Accepts.{accepted-fits}
 use Rattle.paper.proofs.Pack.Size.{reading-numbered}
@@ -118,30 +117,30 @@ line-sized : (cs : List ℕ) (l : Line) → LineFits cs l → T (all isScalar cs
 unfolding definitionsOf
 line-sized cs blank f a = tt
 line-sized cs (category name i g n) f a =
-    let h : n ≤ 0xFFFF_FFFF = f .lengths .fits in
+    let h : n ≤ maxU32 = f .lengths .fits in
     let k : n < maxU32 + 1 = omega arith in
     yes-and (ltb n (maxU32 + 1)) true (yes-ltb k) tt
 line-sized cs (range lower upper names) f a = tt
 
-stands-bound : (c : ℕ) → c ≤ 0xFFFF → c ≢ 0xFEFF → c ≢ 0xFFFE → T (isBound (standsFor c))
+stands-bound : (c : ℕ) → c ≤ maxU16 → c ≢ byteOrderMark → c ≢ swappedMark → T (isBound (standsFor c))
 unfolding standsFor isBound
-stands-bound c h m s = go (between 0xD800 0xDFFF c) refl
+stands-bound c h m s = go (between firstSurrogate lastSurrogate c) refl
   where
-    go : (b : Bool) → between 0xD800 0xDFFF c ≡ b → T (isBound (cond b 0xFFFD c))
+    go : (b : Bool) → between firstSurrogate lastSurrogate c ≡ b → T (isBound (cond b replacement c))
     go true e = tt
     go false e =
-        yes-and (leb c 0xFFFF && not (between 0xD800 0xDFFF c) && not (eqb c 0xFEFF)) (not (eqb c 0xFFFE))
-        (yes-and (leb c 0xFFFF && not (between 0xD800 0xDFFF c)) (not (eqb c 0xFEFF))
-        (yes-and (leb c 0xFFFF) (not (between 0xD800 0xDFFF c)) (yes-leb h) (false→T _ e))
-        (not-T (eqb c 0xFEFF) (λ u. m (eqb→eq c 0xFEFF u))))
-        (not-T (eqb c 0xFFFE) (λ u. s (eqb→eq c 0xFFFE u)))
+        yes-and (leb c maxU16 && not (between firstSurrogate lastSurrogate c) && not (eqb c byteOrderMark)) (not (eqb c swappedMark))
+        (yes-and (leb c maxU16 && not (between firstSurrogate lastSurrogate c)) (not (eqb c byteOrderMark))
+        (yes-and (leb c maxU16) (not (between firstSurrogate lastSurrogate c)) (yes-leb h) (false→T _ e))
+        (not-T (eqb c byteOrderMark) (λ u. m (eqb→eq c byteOrderMark u))))
+        (not-T (eqb c swappedMark) (λ u. s (eqb→eq c swappedMark u)))
 
 bound-good : {least : ℕ} {cs : List ℕ} {b : ℕ} → Bound least cs b → T (isBound b)
 bound-good f = subst (λ b. T (isBound b)) (sym (f .says)) (stands-bound (f .code) (f .number .fits) (f .noMark) (f .noSwap))
 
 bounds-good : {cs : List ℕ} {lower upper : ℕ} → Bounds cs lower upper → T (isBound lower) × T (isBound upper)
-bounds-good (one f e) = (bound-good f, subst (λ b. T (isBound b)) (sym e) (bound-good f))
-bounds-good (two left right e f g) = (bound-good f, bound-good g)
+bounds-good (one-bound f e) = (bound-good f, subst (λ b. T (isBound b)) (sym e) (bound-good f))
+bounds-good (two-bounds left right e f g) = (bound-good f, bound-good g)
 
 line-bounded : (ns : List (List ℕ)) (cs : List ℕ) (l : Line) → LineFits cs l → T (all isScalar cs) → T (all bounded (rangesOf ns l))
 unfolding rangesOf bounded

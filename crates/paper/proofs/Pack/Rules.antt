@@ -1,62 +1,24 @@
 -- The rules of a pack, "The pack" of the paper: what a reading keeps so that it has a pack.
 -- Refusal 26 is given exactly when a reading breaks one; the test is `keepsRules`.
 -- Assumes nothing.
-use Prim.Native.Nat.{ℕ, zero, suc, _+_, _<_, _≤_, zero-le}
-use native.Mathlib.Nat.{le-refl}
-use native.Mathlib.Omega.{arith}
-use mathlib.Core.Path.{_≡_, refl, sym, _∙_, subst}
+use Prim.Native.Nat.{ℕ}
+use mathlib.Core.Path.{_≡_, refl}
 use mathlib.Core.Logic.{_↔_}
 use mathlib.Core.Bool.{Bool, true}
 use mathlib.Core.List.{List, [], _∷_}
 use lib.Dec.{T, leb}
-use lib.ListN.{length, drop, take-append-drop}
-use lib.Seq.{drop-nil, take-length}
+use lib.ListN.{length}
 use mir.Facts.{and-yes, yes-and, leb-yes, yes-leb}
 use Rattle.paper.specs.Sizes.{maxCategories, maxNameBytes, maxCategoryLines, maxRanges, maxReferences}
 use Rattle.paper.specs.Lists.{all}
-use Rattle.paper.specs.Text.Scalar.{WellFormed, nothing}
+use Rattle.paper.specs.Text.Scalar.{WellFormed}
 use Rattle.paper.specs.CharDef.Reading.{Reading, nameBytes, references, Within}
 use Rattle.paper.specs.Pack.Rules.{numbered, Each, PackRules, bounded, once, sized, hasBytes}
-use Rattle.paper.specs.Computed.Decode.{First, bad, good, first, Text, broken, chars, consText, onward, decodeFrom, decode}
+use Rattle.paper.specs.Computed.Decode.{Text, broken, chars, decode}
 use Rattle.paper.specs.Computed.Rules.{formed, isText, keepsRules, within}
-use Rattle.paper.proofs.Text.Code.{broken-chars}
-use Rattle.paper.proofs.Text.Prefix.{Shaped, first-shapes, prefix-longest}
+use Rattle.paper.proofs.Text.Code.{reads, ill-read}
 
 -- ---- well-formed is what the decoder takes
-
-chars-formed : (s : List ℕ) (at skip : ℕ) (cs : List ℕ) → skip ≤ length s → decodeFrom at skip s ≡ chars cs → WellFormed (drop skip s)
-unfolding decodeFrom
-chars-formed [] at skip cs k h = rw (drop-nil skip) nothing
-chars-formed (a ∷ s) at (suc skip) cs k h = chars-formed s (suc at) skip cs (omega arith) h
-chars-formed (a ∷ s) at zero cs k h = go (first a s) refl h (λ extra. chars-formed s (suc at) extra)
-  where
-    go : (f : First) → first a s ≡ f → onward at f (λ extra. decodeFrom (suc at) extra s) ≡ chars cs
-        → ((extra : ℕ) (ds : List ℕ) → extra ≤ length s → decodeFrom (suc at) extra s ≡ chars ds → WellFormed (drop extra s))
-        → WellFormed (a ∷ s)
-    go bad e h ih = broken-chars h
-    go (good c extra) e h ih = rest (decodeFrom (suc at) extra s) refl h
-      where
-        sh : Shaped a s extra
-        sh = first-shapes a s c extra e
-
-        rest : (o : Text) → decodeFrom (suc at) extra s ≡ o → consText c o ≡ chars cs → WellFormed (a ∷ s)
-        rest (broken p) d h = broken-chars h
-        rest (chars ds) d h = subst (λ x. WellFormed (a ∷ x)) (take-append-drop extra s) (sh .glue (drop extra s) (ih extra ds (sh .there) d))
-
-broken-inside : (s : List ℕ) (at skip p : ℕ) → decodeFrom at skip s ≡ broken p → p < at + length s
-unfolding decodeFrom
-broken-inside [] at skip p h = broken-chars (sym h)
-broken-inside (a ∷ s) at (suc skip) p h = let k = broken-inside s (suc at) skip p h in omega arith
-broken-inside (a ∷ s) at zero p h = go (first a s) h (λ extra. broken-inside s (suc at) extra p)
-  where
-    go : (f : First) → onward at f (λ extra. decodeFrom (suc at) extra s) ≡ broken p
-        → ((extra : ℕ) → decodeFrom (suc at) extra s ≡ broken p → p < suc at + length s) → p < at + suc (length s)
-    go bad h ih = let e : at ≡ p = cc in omega arith
-    go (good c extra) h ih = rest (decodeFrom (suc at) extra s) refl h
-      where
-        rest : (o : Text) → decodeFrom (suc at) extra s ≡ o → consText c o ≡ broken p → p < at + suc (length s)
-        rest (broken q) d h = let k = ih extra (d ∙ h) in omega arith
-        rest (chars ds) d h = broken-chars (sym h)
 
 pub formed-is : (s : List ℕ) → T (formed s) → WellFormed s
 unfolding formed
@@ -64,17 +26,14 @@ formed-is s t = go (decode s) refl t
   where
     go : (o : Text) → decode s ≡ o → T (isText o) → WellFormed s
     go (broken p) e t = absurd t
-    go (chars cs) e t = chars-formed s 0 0 cs zero-le e
+    go (chars cs) e t = reads s .1 (cs, e)
 
 pub is-formed : (s : List ℕ) → WellFormed s → T (formed s)
 unfolding formed
 is-formed s w = go (decode s) refl
   where
     go : (o : Text) → decode s ≡ o → T (isText o)
-    go (broken p) e =
-        let above : 0 + length s ≤ p = prefix-longest s 0 0 p e (length s) zero-le (le-refl (length s)) (subst WellFormed (sym (take-length s)) w) in
-        let below : p < 0 + length s = broken-inside s 0 0 p e in
-        absurd (omega arith)
+    go (broken p) e = absurd (ill-read s p e w)
     go (chars cs) e = tt
 
 -- ---- the test decides the rules

@@ -15,8 +15,7 @@ use Rattle.paper.specs.CharDef.Line.{Line, blank, category, range}
 use Rattle.paper.specs.CharDef.Reading.{Definition, Range, Reading, namesOf, rangesOf, readingOf, nameBytes, references, Within}
 use Rattle.paper.specs.Pack.Fields.{nameLengthWidth, byteWidth, numberWidth, headWidth, definitionWidth, rangeWidth, Field, field, head, nameFields, definitionFields, rangeFields, bits, fieldBits, packBits, inBytes, packBytes}
 use Rattle.paper.specs.Pack.Rules.{numbered}
-use Rattle.paper.proofs.Lists.Facts.{all-append}
-use Rattle.paper.proofs.CharDef.Sound.{all-left, all-right}
+use Rattle.paper.proofs.Lists.Facts.{all-append, all-left, all-right}
 use Rattle.paper.proofs.Lists.Seen.{same-eq, same-refl, seen-has}
 use Rattle.paper.proofs.Rows.Sizes.{position-below}
 

@@ -15,16 +15,15 @@ use Rattle.paper.specs.Sizes.{maxCategories, maxNameBytes, maxCategoryLi
 use Rattle.paper.specs.Refusals.{packVersion, packRule, packLeftOver}
 use Rattle.paper.specs.Lists.{all, any, joined, same}
 use Rattle.paper.specs.Text.Scalar.{In, WellFormed, nothing, utf8-1, utf8-2, utf8-3-E0, utf8-3-E1, utf8-3-ED, utf8-3-EE, utf8-4-F0, utf8-4-F1, utf8-4-F4}
-use Rattle.paper.specs.Numbers.Bytes.{isByte}
+use Rattle.paper.specs.Numbers.Bytes.{isByte, byteLimit}
 use Rattle.paper.specs.CharDef.Reading.{Definition, Range, Reading, nameBytes, references, Within, accepted}
-use Rattle.paper.specs.Pack.Fields.{version, versionWidth, categoriesWidth, linesWidth, rangesWidth, referencesWidth, nameLengthWidth, byteWidth, flagWidth, lengthWidth, boundWidth, countWidth, numberWidth, Field, flag, field, nameFields, definitionFields, rangeFields, packFields, bits, spell, packBits, inBytes, packBytes}
+use Rattle.paper.specs.Pack.Fields.{version, versionWidth, categoriesWidth, linesWidth, rangesWidth, referencesWidth, nameLengthWidth, byteWidth, flagWidth, lengthWidth, boundWidth, countWidth, numberWidth, Field, flag, field, nameFields, definitionFields, rangeFields, packFields, bits, spell, packBits, inBytes, packBytes, bitsOf}
 use Rattle.paper.specs.Pack.Rules.{numbered, hasBytes, onceAfter, isBound, bounded, sized, PackRules}
-use Rattle.paper.specs.Computed.ReadPack.{unpackBits, Taken, short, taken, takeNumber, takeBytes, Outcome, gave, broke, Reader, afterOutcome, _▹_, give, settle, fieldOr, number, free, bytesField, demand, isPadding, padding, many, lengthRule, nameRule, readName, readNames, readDefinition, countRule, readRange, readRanges, upTo, readBody, readCounted, readFields, readAll, answer, readPack}
+use Rattle.paper.specs.Computed.ReadPack.{Taken, short, taken, takeNumber, takeBytes, Outcome, gave, broke, Reader, afterOutcome, _▹_, give, settle, fieldOr, number, free, bytesField, demand, isPadding, padding, many, lengthRule, nameRule, readName, readNames, readDefinition, countRule, readRange, readRanges, upTo, readBody, readCounted, readFields, readAll, answer, readPack}
 use Rattle.paper.specs.Computed.Rules.{formed}
+use Rattle.paper.proofs.Apart.{refused-accepted, broke-gave}
 use Rattle.paper.proofs.Lists.Facts.{T→true, true→T}
-use Rattle.paper.proofs.CharDef.Sound.{zero-one}
 use Rattle.paper.proofs.Pack.Size.{bits-length, fields-length, width-map, pack-length}
-use Rattle.paper.proofs.CharDef.Whole.{refused-accepted}
 use Rattle.paper.proofs.Pack.Rules.{formed-is, is-formed, each-all, all-each}
 use Rattle.paper.proofs.Pack.Bits.{isBit, spell-append, spell-bits, unpack-bits, number-taken, taken-number, bytes-taken, taken-bytes, inBytes-unpack, unpack-inBytes, inBytes-pad, inBytes-bytes, unpack-length}
 
@@ -95,9 +94,6 @@ reads-many p good w f (a ∷ xs) t =
 
 -- ---- and what it reads stands there
 
-pub broke-got {ℓ} : {X : Type ℓ} {A : Type 0} {n at to : ℕ} {a : A} {t : List ℕ} → broke n at ≡ gave a to t → X
-broke-got e = zero-one (cc)
-
 -- the value passes its test, and the bits are its own and those left
 pub record Part (ok : Bool) (f s t : List ℕ) : Type 0 where
   pub good : T ok
@@ -116,7 +112,7 @@ unfolding _▹_
 split {A} {B} p k at s b to t h = go (p at s) refl h
   where
     go : (o : Outcome A) → p at s ≡ o → afterOutcome o k ≡ gave b to t → Then p k at s b to t
-    go (broke n m) e h = broke-got h
+    go (broke n m) e h = broke-gave h
     go (gave a m u) e h = record { value = a; place = m; rest = u; first = e; second = h }
 
 given : {A : Type 0} (a : A) (at : ℕ) (s : List ℕ) (b : A) (to : ℕ) (t : List ℕ) → give a at s ≡ gave b to t → (a ≡ b) × (s ≡ t)
@@ -130,7 +126,7 @@ field-part m w ok at s v to t b h = go (takeNumber w 0 s) refl h
   where
     pass : (n : ℕ) (u : List ℕ) (c : Bool) → ok n ≡ c → takeNumber w 0 s ≡ taken n u → cond c (gave n (at + w) u) (broke m at) ≡ gave v to t
         → (v < 2 ^ w) × Part (ok v) (bits w v) s t
-    pass n u false e d h = broke-got h
+    pass n u false e d h = broke-gave h
     pass n u true e d h =
         let ev : n ≡ v = cc in
         let et : u ≡ t = cc in
@@ -138,7 +134,7 @@ field-part m w ok at s v to t b h = go (takeNumber w 0 s) refl h
         (lt, record { good = true→T (ok v) (ap ok (sym ev) ∙ e); whole = whole; left = left })
 
     go : (o : Taken ℕ) → takeNumber w 0 s ≡ o → settle m w at ok o ≡ gave v to t → (v < 2 ^ w) × Part (ok v) (bits w v) s t
-    go short d h = broke-got h
+    go short d h = broke-gave h
     go (taken n u) d h = pass n u (ok n) refl d h
 
 bytes-part : (n : ℕ) (ok : List ℕ → Bool) (at : ℕ) (s v : List ℕ) (to : ℕ) (t : List ℕ) → T (all isBit s) → bytesField n ok at s ≡ gave v to t
@@ -148,7 +144,7 @@ bytes-part n ok at s v to t b h = go (takeBytes n s) refl h
   where
     pass : (x u : List ℕ) (c : Bool) → ok x ≡ c → takeBytes n s ≡ taken x u → cond c (gave x (at + byteWidth * n) u) (broke packRule at) ≡ gave v to t
         → (length v ≡ n) × Part (ok v) (spell (map (field byteWidth) v)) s t
-    pass x u false e d h = broke-got h
+    pass x u false e d h = broke-gave h
     pass x u true e d h =
         let ev : x ≡ v = cc in
         let et : u ≡ t = cc in
@@ -156,13 +152,13 @@ bytes-part n ok at s v to t b h = go (takeBytes n s) refl h
         (m .size, record { good = true→T (ok v) (ap ok (sym ev) ∙ e); whole = m .whole; left = m .left })
 
     go : (o : Taken (List ℕ)) → takeBytes n s ≡ o → settle packRule (byteWidth * n) at ok o ≡ gave v to t → (length v ≡ n) × Part (ok v) (spell (map (field byteWidth) v)) s t
-    go short d h = broke-got h
+    go short d h = broke-gave h
     go (taken x u) d h = pass x u (ok x) refl d h
 
 demanded : (c : Bool) (at : ℕ) (s : List ℕ) (v : Unit {0}) (to : ℕ) (t : List ℕ) → demand c at s ≡ gave v to t → T c × (s ≡ t)
 unfolding demand
 demanded true at s v to t h = let e : s ≡ t = cc in (tt, e)
-demanded false at s v to t h = broke-got h
+demanded false at s v to t h = broke-gave h
 
 many-part : {A : Type 0} (p : Reader A) (good : A → Bool) (w : A → List ℕ)
     → ((at : ℕ) (s : List ℕ) (a : A) (to : ℕ) (t : List ℕ) → T (all isBit s) → p at s ≡ gave a to t → Part (good a) (w a) s t)
@@ -199,8 +195,8 @@ spell-map w (n ∷ ns) = ap (λ l. bits w n ++ l) (spell-map w ns)
 
 -- ---- names
 
-in-byte : {lo hi a : ℕ} → hi ≤ 255 → In lo hi a → T (isByte a)
-in-byte {lo} {hi} {a} h i = let k : a < 256 = omega arith in yes-ltb k
+in-byte : {lo hi a : ℕ} → hi < byteLimit → In lo hi a → T (isByte a)
+in-byte {lo} {hi} {a} h i = let k : a < byteLimit = omega arith in yes-ltb k
 
 three-bytes : (a b c : ℕ) (s : List ℕ) → T (isByte a) → T (isByte b) → T (isByte c) → T (all isByte s) → T (all isByte (a ∷ b ∷ c ∷ s))
 three-bytes a b c s i j k w = yes-and (isByte a) _ i (yes-and (isByte b) _ j (yes-and (isByte c) _ k w))
@@ -662,7 +658,7 @@ padding-is at s v to t h = go (isPadding s) refl h
   where
     go : (c : Bool) → isPadding s ≡ c → cond c (gave tt at []) (broke packLeftOver at) ≡ gave v to t → T (isPadding s)
     go true e h = true→T (isPadding s) e
-    go false e h = broke-got h
+    go false e h = broke-gave h
 
 -- the fields of a reading, whatever stands behind them
 pub fields-of : (r : Reading) (s : List ℕ) → PackRules r → readFields 0 (packBits r ++ s) ≡ gave r (length (packBits r)) s
@@ -685,15 +681,15 @@ pub record PackIs (p : List ℕ) (r : Reading) : Type 0 where
   pub rules : PackRules r
   pub pad : List ℕ
   pub zero-bits : T (isPadding pad)
-  pub whole : unpackBits p ≡ packBits r ++ pad
+  pub whole : bitsOf p ≡ packBits r ++ pad
 
-all-read : (p : List ℕ) (r : Reading) (to : ℕ) (t : List ℕ) → readAll 0 (unpackBits p) ≡ gave r to t → PackIs p r
+all-read : (p : List ℕ) (r : Reading) (to : ℕ) (t : List ℕ) → readAll 0 (bitsOf p) ≡ gave r to t → PackIs p r
 unfolding readAll
 all-read p r to t e =
-    let x = split readFields _ 0 (unpackBits p) r to t e in
+    let x = split readFields _ 0 (bitsOf p) r to t e in
     let y = split padding _ (x .place) (x .rest) r to t (x .second) in
     let (er, et) = given (x .value) (y .place) (y .rest) r to t (y .second) in
-    let f = fields-read 0 (unpackBits p) r (x .place) (x .rest) (unpack-bits p) (x .first ∙ ap (λ v. gave v (x .place) (x .rest)) er) in
+    let f = fields-read 0 (bitsOf p) r (x .place) (x .rest) (unpack-bits p) (x .first ∙ ap (λ v. gave v (x .place) (x .rest)) er) in
     record { rules = f .rules; pad = x .rest; zero-bits = padding-is (x .place) (x .rest) (y .value) (y .place) (y .rest) (y .first); whole = f .whole }
 
 pub answered : (o : Outcome Reading) (r : Reading) → answer o ≡ accepted r → (to : ℕ) × (t : List ℕ) × (o ≡ gave r to t)
@@ -702,7 +698,7 @@ answered (gave q to t) r h = let e : q ≡ r = cc in (to, t, ap (λ v. gave v to
 
 pub pack-is : (p : List ℕ) (r : Reading) → readPack p ≡ accepted r → PackIs p r
 unfolding readPack
-pack-is p r h = let (to, t, e) = answered (readAll 0 (unpackBits p)) r h in all-read p r to t e
+pack-is p r h = let (to, t, e) = answered (readAll 0 (bitsOf p)) r h in all-read p r to t e
 
 -- what is accepted keeps the rules
 pub read-rules : (p : List ℕ) (r : Reading) → readPack p ≡ accepted r → PackRules r

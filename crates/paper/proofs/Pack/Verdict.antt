@@ -15,14 +15,13 @@ use Rattle.paper.specs.Refusals.{packVersion, packEnds, packRule, packLe
 use Rattle.paper.specs.Lists.{all}
 use Rattle.paper.specs.Numbers.Bytes.{isByte}
 use Rattle.paper.specs.CharDef.Reading.{Reading, references, Answer, accepted, refused}
-use Rattle.paper.specs.Pack.Fields.{version, versionWidth, categoriesWidth, linesWidth, rangesWidth, referencesWidth, nameLengthWidth, byteWidth, flagWidth, lengthWidth, boundWidth, countWidth, numberWidth, bits, packBits}
+use Rattle.paper.specs.Pack.Fields.{version, versionWidth, categoriesWidth, linesWidth, rangesWidth, referencesWidth, nameLengthWidth, byteWidth, flagWidth, lengthWidth, boundWidth, countWidth, numberWidth, bits, packBits, bitsOf}
 use Rattle.paper.specs.Pack.Rules.{PackRules}
-use Rattle.paper.specs.Computed.ReadPack.{unpackBits, Taken, short, taken, takeNumber, consTaken, afterByte, takeBytes, Outcome, gave, broke, Reader, afterOutcome, _▹_, give, settle, fieldOr, number, bytesField, demand, isPadding, padding, many, lengthRule, nameRule, readName, readNames, readDefinition, readRange, readRanges, upTo, readBody, readCounted, readFields, readAll, answer, readPack}
-use Rattle.paper.proofs.Lists.Facts.{T→false}
-use Rattle.paper.proofs.CharDef.Sound.{zero-one, false→T, all-left}
-use Rattle.paper.proofs.CharDef.Whole.{refused-accepted}
-use Rattle.paper.proofs.Pack.Bits.{unpack-bits, number-taken, short-taken}
-use Rattle.paper.proofs.Pack.Trip.{broke-got, fields-read, fields-of, pack-is}
+use Rattle.paper.specs.Computed.ReadPack.{Taken, short, taken, takeNumber, consTaken, afterByte, takeBytes, Outcome, gave, broke, Reader, afterOutcome, _▹_, give, settle, fieldOr, number, bytesField, demand, isPadding, padding, many, lengthRule, nameRule, readName, readNames, readDefinition, readRange, readRanges, upTo, readBody, readCounted, readFields, readAll, answer, readPack}
+use Rattle.paper.proofs.Apart.{refused-accepted, short-taken, broke-gave}
+use Rattle.paper.proofs.Lists.Facts.{T→false, false→T, all-left}
+use Rattle.paper.proofs.Pack.Bits.{unpack-bits, number-taken}
+use Rattle.paper.proofs.Pack.Trip.{fields-read, fields-of, pack-is}
 
 -- ---- an orderly reader
 
@@ -33,9 +32,6 @@ pub record Orderly {A : Type 0} (S : ℕ → Bool) (p : Reader A) : Type 0 where
   pub breaks : (at : ℕ) (s : List ℕ) (n m : ℕ) → p at s ≡ broke n m → T (S n) × (at ≤ m) × (m ≤ at + length s)
   pub goes : (at : ℕ) (s : List ℕ) (a : A) (to : ℕ) (t : List ℕ) → p at s ≡ gave a to t → (u : List ℕ) → p at (s ++ u) ≡ gave a to (t ++ u)
   pub stops : (at : ℕ) (s : List ℕ) (n m : ℕ) → p at s ≡ broke n m → n ≢ packEnds → (u : List ℕ) → p at (s ++ u) ≡ broke n m
-
-pub got-broke {ℓ} : {X : Type ℓ} {A : Type 0} {n at to : ℕ} {a : A} {t : List ℕ} → gave a to t ≡ broke n at → X
-got-broke e = zero-one (cc)
 
 pub broke-same : {A : Type 0} (i j n m : ℕ) → _≡_ {A = Outcome A} (broke i j) (broke n m) → (i ≡ n) × (j ≡ m)
 broke-same i j n m h = let e : i ≡ n = cc in let d : j ≡ m = cc in (e, d)
@@ -51,7 +47,7 @@ orderly-bind {A} {B} S p k o f =
     }
   where
     moves : (at : ℕ) (s : List ℕ) (b : B) (to : ℕ) (t : List ℕ) (g : Outcome A) → p at s ≡ g → afterOutcome g k ≡ gave b to t → (at ≤ to) × (to + length t ≡ at + length s)
-    moves at s b to t (broke n m) e h = broke-got h
+    moves at s b to t (broke n m) e h = broke-gave h
     moves at s b to t (gave a m v) e h =
         let (i, x) = o .moves at s a m v e in
         let (j, y) = f a .moves m v b to t h in
@@ -65,7 +61,7 @@ orderly-bind {A} {B} S p k o f =
         (t, omega arith, omega arith)
 
     goes : (at : ℕ) (s : List ℕ) (b : B) (to : ℕ) (t u : List ℕ) (g : Outcome A) → p at s ≡ g → afterOutcome g k ≡ gave b to t → afterOutcome (p at (s ++ u)) k ≡ gave b to (t ++ u)
-    goes at s b to t u (broke n m) e h = broke-got h
+    goes at s b to t u (broke n m) e h = broke-gave h
     goes at s b to t u (gave a m v) e h = ap (λ g. afterOutcome g k) (o .goes at s a m v e u) ∙ f a .goes m v b to t h u
 
     stops : (at : ℕ) (s : List ℕ) (n m : ℕ) → n ≢ packEnds → (u : List ℕ) (g : Outcome A) → p at s ≡ g → afterOutcome g k ≡ broke n m → afterOutcome (p at (s ++ u)) k ≡ broke n m
@@ -77,9 +73,9 @@ unfolding give
 orderly-give {A} S a =
     record {
       moves = moves;
-      breaks = λ at s n m h. got-broke h;
+      breaks = λ at s n m h. broke-gave (sym h);
       goes = λ at s b to t h u. let ea : a ≡ b = cc in let em : at ≡ to = cc in let et : s ≡ t = cc in cc;
-      stops = λ at s n m h d u. got-broke h;
+      stops = λ at s n m h d u. broke-gave (sym h);
     }
   where
     moves : (at : ℕ) (s : List ℕ) (b : A) (to : ℕ) (t : List ℕ) → gave a at s ≡ gave b to t → (at ≤ to) × (to + length t ≡ at + length s)
@@ -94,7 +90,7 @@ orderly-give {A} S a =
 pub settle-got : {A : Type 0} (n w at : ℕ) (ok : A → Bool) (o : Taken A) (a : A) (to : ℕ) (t : List ℕ) → settle n w at ok o ≡ gave a to t
     → (o ≡ taken a t) × (ok a ≡ true) × (at + w ≡ to)
 unfolding settle
-settle-got n w at ok short a to t h = broke-got h
+settle-got n w at ok short a to t h = broke-gave h
 settle-got n w at ok (taken x v) a to t h = go (ok x) refl h
   where
     go : (c : Bool) → ok x ≡ c → cond c (gave x (at + w) v) (broke n at) ≡ gave a to t → (taken x v ≡ taken a t) × (ok a ≡ true) × (at + w ≡ to)
@@ -103,7 +99,7 @@ settle-got n w at ok (taken x v) a to t h = go (ok x) refl h
         let et : v ≡ t = cc in
         let em : at + w ≡ to = cc in
         (ap₂ taken ea et, ap ok (sym ea) ∙ e, em)
-    go false e h = broke-got h
+    go false e h = broke-gave h
 
 -- too short, or the test fails
 pub settle-broke : {A : Type 0} (n w at : ℕ) (ok : A → Bool) (o : Taken A) (k m : ℕ) → settle n w at ok o ≡ broke k m
@@ -114,7 +110,7 @@ settle-broke {A} n w at ok (taken x v) k m h = go (ok x) refl h
   where
     go : (c : Bool) → ok x ≡ c → cond c (gave x (at + w) v) (broke n at) ≡ broke k m
         → (at ≡ m) × (((taken x v ≡ short) × (packEnds ≡ k)) ⊎ ((a : A) × (t : List ℕ) × (taken x v ≡ taken a t) × (ok a ≡ false) × (n ≡ k)))
-    go true e h = got-broke h
+    go true e h = broke-gave (sym h)
     go false e h = let ek : n ≡ k = cc in let em : at ≡ m = cc in (em, inr (x, v, refl, e, ek))
 
 module _ {A : Type 0} (S : ℕ → Bool) (n w : ℕ) (ok : A → Bool) (take : List ℕ → Taken A)
@@ -235,10 +231,10 @@ orderly-demand b =
         let et : s ≡ t = cc in
         let el : length s ≡ length t = ap length et in
         (omega arith, omega arith)
-    moves false at s a to t h = broke-got h
+    moves false at s a to t h = broke-gave h
 
     breaks : (b : Bool) (at : ℕ) (s : List ℕ) (n m : ℕ) → demand b at s ≡ broke n m → T (late n) × (at ≤ m) × (m ≤ at + length s)
-    breaks true at s n m h = got-broke h
+    breaks true at s n m h = broke-gave (sym h)
     breaks false at s n m h =
         let en : packRule ≡ n = cc in
         let em : at ≡ m = cc in
@@ -247,10 +243,10 @@ orderly-demand b =
     goes : (b : Bool) (at : ℕ) (s : List ℕ) (a : Unit {0}) (to : ℕ) (t : List ℕ) → demand b at s ≡ gave a to t → (u : List ℕ)
         → demand b at (s ++ u) ≡ gave a to (t ++ u)
     goes true at s a to t h u = let em : at ≡ to = cc in let et : s ≡ t = cc in cc
-    goes false at s a to t h u = broke-got h
+    goes false at s a to t h u = broke-gave h
 
     stops : (b : Bool) (at : ℕ) (s : List ℕ) (n m : ℕ) → demand b at s ≡ broke n m → (u : List ℕ) → demand b at (s ++ u) ≡ broke n m
-    stops true at s n m h u = got-broke h
+    stops true at s n m h u = broke-gave (sym h)
     stops false at s n m h u = h
 
 orderly-many : {A : Type 0} (n : ℕ) (p : Reader A) → Orderly late p → Orderly late (many n p)
@@ -332,7 +328,7 @@ unfolding padding
 padding-broke at s n m h = go (isPadding s) refl h
   where
     go : (b : Bool) → isPadding s ≡ b → _≡_ {A = Outcome (Unit {0})} (cond b (gave tt at []) (broke packLeftOver at)) (broke n m) → (isPadding s ≡ false) × (packLeftOver ≡ n) × (at ≡ m)
-    go true e h = got-broke h
+    go true e h = broke-gave (sym h)
     go false e h = let en : packLeftOver ≡ n = cc in let em : at ≡ m = cc in (e, en, em)
 
 -- a field is broken, or they all are read and what is left is no padding
@@ -345,7 +341,7 @@ unfolding readAll _▹_ give Stopped
 all-stopped s n at h = go (readFields 0 s) refl h
   where
     pad : (r : Reading) (m : ℕ) (t : List ℕ) → readFields 0 s ≡ gave r m t → (o : Outcome (Unit {0})) → padding m t ≡ o → afterOutcome o (λ end. give r) ≡ broke n at → Stopped s n at
-    pad r m t e (gave u to v) d h = got-broke h
+    pad r m t e (gave u to v) d h = broke-gave (sym h)
     pad r m t e (broke i j) d h =
         let (ei, ej) = broke-same i j n at h in
         let (c, en, em) = padding-broke m t i j d in
@@ -367,13 +363,13 @@ answer-refused : (o : Outcome Reading) (n at : ℕ) → answer o ≡ refused n a
 answer-refused (gave r to t) n at h = refused-accepted (sym h)
 answer-refused (broke i j) n at h = let e : i ≡ n = cc in let d : j ≡ at = cc in cc
 
-pub stopped-of : (p : List ℕ) (n at : ℕ) → readPack p ≡ refused n at → Stopped (unpackBits p) n at
+pub stopped-of : (p : List ℕ) (n at : ℕ) → readPack p ≡ refused n at → Stopped (bitsOf p) n at
 unfolding readPack
-stopped-of p n at h = all-stopped (unpackBits p) n at (answer-refused (readAll 0 (unpackBits p)) n at h)
+stopped-of p n at h = all-stopped (bitsOf p) n at (answer-refused (readAll 0 (bitsOf p)) n at h)
 
-of-stopped : (p : List ℕ) (n at : ℕ) → Stopped (unpackBits p) n at → readPack p ≡ refused n at
+of-stopped : (p : List ℕ) (n at : ℕ) → Stopped (bitsOf p) n at → readPack p ≡ refused n at
 unfolding readPack
-of-stopped p n at h = ap answer (stopped-all (unpackBits p) n at h)
+of-stopped p n at h = ap answer (stopped-all (bitsOf p) n at h)
 
 -- ---- the verdicts
 
@@ -381,11 +377,11 @@ pub nothing-19 : readPack [] ≡ refused packEnds 0
 unfolding readPack
 nothing-19 = refl
 
-unpack-append : (p q : List ℕ) → unpackBits (p ++ q) ≡ unpackBits p ++ unpackBits q
+unpack-append : (p q : List ℕ) → bitsOf (p ++ q) ≡ bitsOf p ++ bitsOf q
 unpack-append [] q = refl
 unpack-append (b ∷ p) q = ap (λ l. bits byteWidth b ++ l) (unpack-append p q)
 
-unpack-size : (p : List ℕ) → length (unpackBits p) ≡ byteWidth * length p
+unpack-size : (p : List ℕ) → length (bitsOf p) ≡ byteWidth * length p
 unpack-size [] = refl
 unpack-size (b ∷ p) = let h = unpack-size p in omega arith
 
@@ -398,13 +394,13 @@ refused-numbers p n at h = go (stopped-of p n at h)
     left true b t = tt
     left false b t = absurd t
 
-    go : Stopped (unpackBits p) n at → T (early n || eqb n packLeftOver) × (at ≤ byteWidth * length p)
+    go : Stopped (bitsOf p) n at → T (early n || eqb n packLeftOver) × (at ≤ byteWidth * length p)
     go (inl e) =
-        let (t, i, j) = orderly-fields .breaks 0 (unpackBits p) n at e in
+        let (t, i, j) = orderly-fields .breaks 0 (bitsOf p) n at e in
         let k = unpack-size p in
         (left (early n) (eqb n packLeftOver) t, omega arith)
     go (inr (r, t, e, c, en)) =
-        let (i, j) = orderly-fields .moves 0 (unpackBits p) r at t e in
+        let (i, j) = orderly-fields .moves 0 (bitsOf p) r at t e in
         let k = unpack-size p in
         (subst (λ n. T (early n || eqb n packLeftOver)) en tt, omega arith)
 
@@ -413,29 +409,29 @@ pub refused-18 : (p : List ℕ) (at : ℕ) → T (all isByte p) → (readPack p 
 unfolding Stopped readFields _▹_ fieldOr
 refused-18 p at bytes = (λ h. only (stopped-of p packVersion at h), λ (e, b, q, ep, d). given e b q ep d)
   where
-    first : (b : ℕ) (q : List ℕ) → T (all isByte (b ∷ q)) → takeNumber byteWidth 0 (unpackBits (b ∷ q)) ≡ taken b (unpackBits q)
-    first b q t = number-taken byteWidth b (unpackBits q) (ltb-yes (and-yes (isByte b) (all isByte q) t .0))
+    first : (b : ℕ) (q : List ℕ) → T (all isByte (b ∷ q)) → takeNumber byteWidth 0 (bitsOf (b ∷ q)) ≡ taken b (bitsOf q)
+    first b q t = number-taken byteWidth b (bitsOf q) (ltb-yes (and-yes (isByte b) (all isByte q) t .0))
 
-    byte : (q : List ℕ) → T (all isByte q) → (v : ℕ) (t : List ℕ) → takeNumber byteWidth 0 (unpackBits q) ≡ taken v t → eqb version v ≡ false → (b : ℕ) × (l : List ℕ) × (q ≡ b ∷ l) × (b ≢ version)
+    byte : (q : List ℕ) → T (all isByte q) → (v : ℕ) (t : List ℕ) → takeNumber byteWidth 0 (bitsOf q) ≡ taken v t → eqb version v ≡ false → (b : ℕ) × (l : List ℕ) × (q ≡ b ∷ l) × (b ≢ version)
     byte [] t v u h c = short-taken h
     byte (b ∷ l) t v u h c =
         let g = first b l t in
         let e : v ≡ b = cc in
         (b, l, refl, λ d. T-not (eqb version v) (subst (λ k. T (eqb version k)) (sym (e ∙ d)) tt) (false→T _ c))
 
-    field : (m : ℕ) → settle packVersion versionWidth 0 (eqb version) (takeNumber byteWidth 0 (unpackBits p)) ≡ broke packVersion m → (m ≡ 0) × (b : ℕ) × (q : List ℕ) × (p ≡ b ∷ q) × (b ≢ version)
-    field m h = let (e, o) = settle-broke packVersion versionWidth 0 (eqb version) (takeNumber byteWidth 0 (unpackBits p)) packVersion m h in which e o
+    field : (m : ℕ) → settle packVersion versionWidth 0 (eqb version) (takeNumber byteWidth 0 (bitsOf p)) ≡ broke packVersion m → (m ≡ 0) × (b : ℕ) × (q : List ℕ) × (p ≡ b ∷ q) × (b ≢ version)
+    field m h = let (e, o) = settle-broke packVersion versionWidth 0 (eqb version) (takeNumber byteWidth 0 (bitsOf p)) packVersion m h in which e o
       where
-        which : 0 ≡ m → ((takeNumber byteWidth 0 (unpackBits p) ≡ short) × (_≡_ {A = ℕ} packEnds packVersion)) ⊎ ((a : ℕ) × (t : List ℕ) × (takeNumber byteWidth 0 (unpackBits p) ≡ taken a t) × (eqb version a ≡ false) × (_≡_ {A = ℕ} packVersion packVersion)) → (m ≡ 0) × (b : ℕ) × (q : List ℕ) × (p ≡ b ∷ q) × (b ≢ version)
+        which : 0 ≡ m → ((takeNumber byteWidth 0 (bitsOf p) ≡ short) × (_≡_ {A = ℕ} packEnds packVersion)) ⊎ ((a : ℕ) × (t : List ℕ) × (takeNumber byteWidth 0 (bitsOf p) ≡ taken a t) × (eqb version a ≡ false) × (_≡_ {A = ℕ} packVersion packVersion)) → (m ≡ 0) × (b : ℕ) × (q : List ℕ) × (p ≡ b ∷ q) × (b ≢ version)
         which e (inl (y, z)) = absurd (omega arith)
         which e (inr (a, t, o, c, z)) = let (b, q, ep, d) = byte p bytes a t o c in (sym e, b, q, ep, d)
 
-    fields : (o : Outcome ℕ) → settle packVersion versionWidth 0 (eqb version) (takeNumber byteWidth 0 (unpackBits p)) ≡ o → afterOutcome o (λ v. readCounted) ≡ broke packVersion at → (at ≡ 0) × (b : ℕ) × (q : List ℕ) × (p ≡ b ∷ q) × (b ≢ version)
+    fields : (o : Outcome ℕ) → settle packVersion versionWidth 0 (eqb version) (takeNumber byteWidth 0 (bitsOf p)) ≡ o → afterOutcome o (λ v. readCounted) ≡ broke packVersion at → (at ≡ 0) × (b : ℕ) × (q : List ℕ) × (p ≡ b ∷ q) × (b ≢ version)
     fields (broke i j) e h = let (ei, ej) = broke-same i j packVersion at h in field at (e ∙ ap₂ broke ei ej)
     fields (gave v m t) e h = absurd (orderly-counted .breaks m t packVersion at h .0)
 
-    only : Stopped (unpackBits p) packVersion at → (at ≡ 0) × (b : ℕ) × (q : List ℕ) × (p ≡ b ∷ q) × (b ≢ version)
-    only (inl e) = fields (settle packVersion versionWidth 0 (eqb version) (takeNumber byteWidth 0 (unpackBits p))) refl e
+    only : Stopped (bitsOf p) packVersion at → (at ≡ 0) × (b : ℕ) × (q : List ℕ) × (p ≡ b ∷ q) × (b ≢ version)
+    only (inl e) = fields (settle packVersion versionWidth 0 (eqb version) (takeNumber byteWidth 0 (bitsOf p))) refl e
     only (inr (r, t, e, c, z)) = absurd (omega arith)
 
     given : at ≡ 0 → (b : ℕ) (q : List ℕ) → p ≡ b ∷ q → b ≢ version → readPack p ≡ refused packVersion at
@@ -443,26 +439,26 @@ refused-18 p at bytes = (λ h. only (stopped-of p packVersion at h), λ (e, b, q
         let t : T (all isByte (b ∷ q)) = subst (λ l. T (all isByte l)) ep bytes in
         let c : eqb version b ≡ false = T→false (eqb version b) (not-T (eqb version b) (λ u. d (sym (eqb→eq version b u)))) in
         ap readPack ep ∙ of-stopped (b ∷ q) packVersion 0
-        (inl (ap (λ o. afterOutcome (settle packVersion versionWidth 0 (eqb version) o) (λ v. readCounted)) (first b q t) ∙ ap (λ x. afterOutcome (cond x (gave b (0 + versionWidth) (unpackBits q)) (broke packVersion 0)) (λ v. readCounted)) c))
+        (inl (ap (λ o. afterOutcome (settle packVersion versionWidth 0 (eqb version) o) (λ v. readCounted)) (first b q t) ∙ ap (λ x. afterOutcome (cond x (gave b (0 + versionWidth) (bitsOf q)) (broke packVersion 0)) (λ v. readCounted)) c))
         ∙ ap (refused packVersion) (sym e)
 
 -- 21 exactly when the fields of a reading stand there, keep the rules, and no padding stands behind them
 pub refused-21 : (p : List ℕ) (at : ℕ) → (readPack p ≡ refused packLeftOver at)
-    ↔ ((r : Reading) × (s : List ℕ) × PackRules r × (unpackBits p ≡ packBits r ++ s) × T (not (isPadding s)) × (at ≡ length (packBits r)))
+    ↔ ((r : Reading) × (s : List ℕ) × PackRules r × (bitsOf p ≡ packBits r ++ s) × T (not (isPadding s)) × (at ≡ length (packBits r)))
 unfolding Stopped
 refused-21 p at = (λ h. only (stopped-of p packLeftOver at h), λ (r, s, k, w, n, e). given r s k w n e)
   where
-    only : Stopped (unpackBits p) packLeftOver at → (r : Reading) × (s : List ℕ) × PackRules r × (unpackBits p ≡ packBits r ++ s) × T (not (isPadding s)) × (at ≡ length (packBits r))
-    only (inl e) = absurd (orderly-fields .breaks 0 (unpackBits p) packLeftOver at e .0)
+    only : Stopped (bitsOf p) packLeftOver at → (r : Reading) × (s : List ℕ) × PackRules r × (bitsOf p ≡ packBits r ++ s) × T (not (isPadding s)) × (at ≡ length (packBits r))
+    only (inl e) = absurd (orderly-fields .breaks 0 (bitsOf p) packLeftOver at e .0)
     only (inr (r, t, e, c, z)) =
-        let f = fields-read 0 (unpackBits p) r at t (unpack-bits p) e in
+        let f = fields-read 0 (bitsOf p) r at t (unpack-bits p) e in
         let g = fields-of r t (f .rules) in
-        let w : unpackBits p ≡ packBits r ++ t = f .whole in
+        let w : bitsOf p ≡ packBits r ++ t = f .whole in
         let m : gave r at t ≡ gave r (length (packBits r)) t = sym e ∙ ap (readFields 0) w ∙ g in
         let em : at ≡ length (packBits r) = cc in
         (r, t, f .rules, w, false→T _ c, em)
 
-    given : (r : Reading) (s : List ℕ) → PackRules r → unpackBits p ≡ packBits r ++ s → T (not (isPadding s)) → at ≡ length (packBits r) → readPack p ≡ refused packLeftOver at
+    given : (r : Reading) (s : List ℕ) → PackRules r → bitsOf p ≡ packBits r ++ s → T (not (isPadding s)) → at ≡ length (packBits r) → readPack p ≡ refused packLeftOver at
     given r s k w n e =
         of-stopped p packLeftOver at (inr (r, s, ap (readFields 0) w ∙ fields-of r s k ∙ ap (λ m. gave r m s) (sym e), T→false (isPadding s) n, refl))
 
@@ -478,24 +474,24 @@ pub refused-stays : (p q : List ℕ) (n at : ℕ) → n ≢ packEnds → readPac
 unfolding Stopped
 refused-stays p q n at d h = of-stopped (p ++ q) n at (subst (λ l. Stopped l n at) (sym (unpack-append p q)) (go (stopped-of p n at h)))
   where
-    go : Stopped (unpackBits p) n at → Stopped (unpackBits p ++ unpackBits q) n at
-    go (inl e) = inl (orderly-fields .stops 0 (unpackBits p) n at e d (unpackBits q))
+    go : Stopped (bitsOf p) n at → Stopped (bitsOf p ++ bitsOf q) n at
+    go (inl e) = inl (orderly-fields .stops 0 (bitsOf p) n at e d (bitsOf q))
     go (inr (r, t, e, c, z)) =
-        inr (r, t ++ unpackBits q, orderly-fields .goes 0 (unpackBits p) r at t e (unpackBits q), T→false (isPadding (t ++ unpackBits q)) (not-T (isPadding (t ++ unpackBits q)) (λ u. T-not (isPadding t) (padded-left t (unpackBits q) u) (false→T _ c))), z)
+        inr (r, t ++ bitsOf q, orderly-fields .goes 0 (bitsOf p) r at t e (bitsOf q), T→false (isPadding (t ++ bitsOf q)) (not-T (isPadding (t ++ bitsOf q)) (λ u. T-not (isPadding t) (padded-left t (bitsOf q) u) (false→T _ c))), z)
 
 -- an accepted pack with bytes left over
 pub accepted-more : (p q : List ℕ) (b : ℕ) (r : Reading) → readPack p ≡ accepted r → readPack (p ++ (b ∷ q)) ≡ refused packLeftOver (length (packBits r))
 accepted-more p q b r h =
     let k = pack-is p r h in
-    let w : unpackBits (p ++ (b ∷ q)) ≡ packBits r ++ (k .pad ++ unpackBits (b ∷ q)) =
-    unpack-append p (b ∷ q) ∙ ap (λ l. l ++ unpackBits (b ∷ q)) (k .whole) ∙ append-assoc (packBits r) (k .pad) (unpackBits (b ∷ q)) in
-    refused-21 (p ++ (b ∷ q)) (length (packBits r)) .1 (r, k .pad ++ unpackBits (b ∷ q), k .rules, w, long (k .pad), refl)
+    let w : bitsOf (p ++ (b ∷ q)) ≡ packBits r ++ (k .pad ++ bitsOf (b ∷ q)) =
+    unpack-append p (b ∷ q) ∙ ap (λ l. l ++ bitsOf (b ∷ q)) (k .whole) ∙ append-assoc (packBits r) (k .pad) (bitsOf (b ∷ q)) in
+    refused-21 (p ++ (b ∷ q)) (length (packBits r)) .1 (r, k .pad ++ bitsOf (b ∷ q), k .rules, w, long (k .pad), refl)
   where
-    long : (pad : List ℕ) → T (not (isPadding (pad ++ unpackBits (b ∷ q))))
+    long : (pad : List ℕ) → T (not (isPadding (pad ++ bitsOf (b ∷ q))))
     long pad =
-        not-T (isPadding (pad ++ unpackBits (b ∷ q)))
-        (λ t. let l : length (pad ++ unpackBits (b ∷ q)) < byteWidth = ltb-yes (and-yes (ltb (length (pad ++ unpackBits (b ∷ q))) byteWidth) _ t .0) in
-        omega (arith, length-append pad (unpackBits (b ∷ q)), unpack-size (b ∷ q)))
+        not-T (isPadding (pad ++ bitsOf (b ∷ q)))
+        (λ t. let l : length (pad ++ bitsOf (b ∷ q)) < byteWidth = ltb-yes (and-yes (ltb (length (pad ++ bitsOf (b ∷ q))) byteWidth) _ t .0) in
+        omega (arith, length-append pad (bitsOf (b ∷ q)), unpack-size (b ∷ q)))
 
 -- a pack cut short
 pub accepted-cut : (p q : List ℕ) (b : ℕ) (r : Reading) → readPack (p ++ (b ∷ q)) ≡ accepted r → (at : ℕ) × (readPack p ≡ refused packEnds at)

@@ -14,35 +14,34 @@ use lib.ListN.{length, getD, take, drop, length-take, length-map}
 use lib.Seq.{getD-take, take-take}
 use borrow.Author.Tests.{ltb-true, lt-leb, le-ltb, lt-ltb, eq-eqb}
 use Rattle.paper.specs.Sizes.{bmpSize}
-use Rattle.paper.specs.Lists.{empty}
+use Rattle.paper.specs.Lists.{empty, offsetsFrom}
 use Rattle.paper.specs.Text.Scalar.{isScalar, IsScalar}
 use Rattle.paper.specs.CharDef.Reading.{Reading}
 use Rattle.paper.specs.Rows.Covering.{boundaries, categoriesAt, rows}
 use Rattle.paper.specs.Rows.Flat.{RowFound, entryOffset, entryLength, offsetOf, flatEntry, entryPart, shortRows, flatPool}
-use Rattle.paper.specs.Rows.Build.{offsets}
-use Rattle.paper.specs.Rows.Lookup.{Looked, gives, LookupTables, Part, content, usesFlat, flatPart, rowPart, indexOdd, fromZero, rowMissing, pastPool, apart, Looks, packedAt, Begins, RowsLeft, FlatLeft, AsBuilt, without-flat, with-flat}
-use Rattle.paper.proofs.Lists.Facts.{T→true, true→T}
+use Rattle.paper.specs.Rows.Lookup.{Looked, gives, LookupTables, Part, content, usesFlat, flatPart, rowPart, indexOdd, fromZero, rowMissing, pastPool, apart, Looks, packedAt, StartsWith, RowsLeft, FlatLeft, AsBuilt, without-flat, with-flat, GivesPart}
+use Rattle.paper.proofs.Lists.Facts.{T→true, true→T, joined-length, offsets-length}
 use Rattle.paper.proofs.Lists.Parts.{take-part}
 use Rattle.paper.proofs.Rows.Boundaries.{row-for-each}
 use Rattle.paper.proofs.Rows.Search.{from-zero, found-row}
-use Rattle.paper.proofs.Rows.Flat.{part-of, part-inside, joined-length, flat-part, flat-inside, index-length, index-at}
-use Rattle.paper.proofs.Rows.Build.{overlong-is, offsets-length}
+use Rattle.paper.proofs.Rows.Flat.{part-of, part-inside, flat-part, flat-inside, index-length, index-at}
+use Rattle.paper.proofs.Rows.Build.{overlong-is}
 use Rattle.paper.proofs.Rows.Lookup.{answered}
 
 -- ---- tables with more behind them
 
-begins-at : (l x : List ℕ) (i : ℕ) → Begins l x → i < length x → getD l i 0 ≡ getD x i 0
+begins-at : (l x : List ℕ) (i : ℕ) → StartsWith l x → i < length x → getD l i 0 ≡ getD x i 0
 begins-at l x i e h = sym (getD-take (length x) l i 0 h) ∙ ap (λ k. getD k i 0) e
 
-begins-length : (l x : List ℕ) → Begins l x → length x ≤ length l
+begins-length : (l x : List ℕ) → StartsWith l x → length x ≤ length l
 begins-length l x e = omega (arith, length-take (length x) l, ap length e)
 
-begins-part : (l x : List ℕ) (s n : ℕ) → Begins l x → s + n ≤ length x → take n (drop s l) ≡ take n (drop s x)
+begins-part : (l x : List ℕ) (s n : ℕ) → StartsWith l x → s + n ≤ length x → take n (drop s l) ≡ take n (drop s x)
 begins-part l x s n e h =
     take-part s n l ∙ ap (drop s) (sym (take-take (s + n) (length x) l h) ∙ ap (take (s + n)) e) ∙ sym (take-part s n x)
 
-offsets-at : (at : ℕ) (ws : List (List ℕ)) (i : ℕ) → i < length ws → getD (offsets at ws) i 0 ≡ at + offsetOf ws i
-unfolding offsets offsetOf
+offsets-at : (at : ℕ) (ws : List (List ℕ)) (i : ℕ) → i < length ws → getD (offsetsFrom at ws) i 0 ≡ at + offsetOf ws i
+unfolding offsetOf
 offsets-at at [] i h = absurd (not-suc-le-zero h)
 offsets-at at (w ∷ ws) zero h = omega arith
 offsets-at at (w ∷ ws) (suc i) h = let k = offsets-at (at + length w) ws i (le-of-suc-le-suc h) in omega arith
@@ -65,9 +64,9 @@ module _ (r : Reading) (t : LookupTables) (left : RowsLeft r t) where
 
     start-is : getD (t .starts) i 0 ≡ offsetOf (rows r) i
     start-is =
-        let h : i < length (offsets 0 (rows r)) = rw (offsets-length 0 (rows r)) i-inside in
+        let h : i < length (offsetsFrom 0 (rows r)) = rw (offsets-length 0 (rows r)) i-inside in
         let e : 0 + offsetOf (rows r) i ≡ offsetOf (rows r) i = omega arith in
-        begins-at (t .starts) (offsets 0 (rows r)) i (left .starts-are) h ∙ offsets-at 0 (rows r) i i-inside ∙ e
+        begins-at (t .starts) (offsetsFrom 0 (rows r)) i (left .starts-are) h ∙ offsets-at 0 (rows r) i i-inside ∙ e
 
     len-is : getD (t .lengths) i 0 ≡ length (getD (rows r) i [])
     len-is =
@@ -77,7 +76,7 @@ module _ (r : Reading) (t : LookupTables) (left : RowsLeft r t) where
     there : rowMissing t i ≡ false
     unfolding rowMissing
     there =
-        let a : i < length (t .starts) = omega (arith, begins-length (t .starts) (offsets 0 (rows r)) (left .starts-are), offsets-length 0 (rows r), i-inside) in
+        let a : i < length (t .starts) = omega (arith, begins-length (t .starts) (offsetsFrom 0 (rows r)) (left .starts-are), offsets-length 0 (rows r), i-inside) in
         let b : i < length (t .lengths) = omega (arith, begins-length (t .lengths) (map length (rows r)) (left .lengths-are), length-map (rows r) length, i-inside) in
         rw (lt-leb (length (t .starts)) i a, lt-leb (length (t .lengths)) i b)
 
@@ -126,12 +125,6 @@ module _ (r : Reading) (t : LookupTables) (left : FlatLeft r t) (c : ℕ) (low :
 
 -- ---- the answer
 
--- a part is given, and it holds l
-pub record Holds (t : LookupTables) (l : List ℕ) (a : Looked Part) : Type 0 where
-  pub part : Part
-  pub given : a ≡ gives part
-  pub holds : content t part ≡ l
-
 rows-together : (o u q f m p : Bool) → o ≡ false → u ≡ false → f ≡ true → m ≡ false → p ≡ false → (o || cond u q (not f || m || p)) ≡ false
 rows-together o u q f m p eo eu ef em ep = rw (eo, eu, ef, em, ep)
 
@@ -139,7 +132,7 @@ flat-together : (o u q x : Bool) → o ≡ false → u ≡ true → q ≡ false 
 flat-together o u q x eo eu eq = rw (eo, eu, eq)
 
 module _ (r : Reading) (t : LookupTables) (c : ℕ) (s : IsScalar c) where
-  by-rows : (a : Looked Part) → RowsLeft r t → indexOdd t ≡ false → usesFlat t c ≡ false → Looks t c a → Holds t (categoriesAt r c) a
+  by-rows : (a : Looked Part) → RowsLeft r t → indexOdd t ≡ false → usesFlat t c ≡ false → Looks t c a → GivesPart t (categoriesAt r c) a
   unfolding apart
   by-rows a left o u l =
       let z : fromZero (t .boundaries) ≡ true = begins-zero r t left in
@@ -152,7 +145,7 @@ module _ (r : Reading) (t : LookupTables) (c : ℕ) (s : IsScalar c) where
         holds = row-content r t left c (l .row) f;
       }
 
-  by-flat : (a : Looked Part) → FlatLeft r t → c < bmpSize → indexOdd t ≡ false → usesFlat t c ≡ true → Looks t c a → Holds t (categoriesAt r c) a
+  by-flat : (a : Looked Part) → FlatLeft r t → c < bmpSize → indexOdd t ≡ false → usesFlat t c ≡ true → Looks t c a → GivesPart t (categoriesAt r c) a
   unfolding apart
   by-flat a left low o u l =
       let e : apart t c (l .row) ≡ false = flat-together (indexOdd t) (usesFlat t c) _ _ o u (flat-in-pool r t left c low) in
@@ -188,7 +181,7 @@ module _ (r : Reading) (t : LookupTables) (left : FlatLeft r t) where
       let h : c < length (t .index) = omega (arith, entries) in
       rw (T→true (isScalar c) s, lt-ltb c bmpSize low, index-some, lt-ltb c (length (t .index)) h, entry-is r t left c low)
 
-pub looked-up : (r : Reading) (t : LookupTables) (c : ℕ) (a : Looked Part) → AsBuilt r t → IsScalar c → Looks t c a → Holds t (categoriesAt r c) a
+pub looked-up : (r : Reading) (t : LookupTables) (c : ℕ) (a : Looked Part) → AsBuilt r t → IsScalar c → Looks t c a → GivesPart t (categoriesAt r c) a
 unfolding indexOdd usesFlat
 looked-up r t c a (without-flat left e) s l = by-rows r t c s a left (rw e) (rw e (and-false (ltb c bmpSize))) l
   where
@@ -201,6 +194,6 @@ looked-up r t c a (with-flat left flat) s l = go (ltb c bmpSize) refl
     uses true e = rw (e, index-some r t flat)
     uses false e = rw e
 
-    go : (b : Bool) → ltb c bmpSize ≡ b → Holds t (categoriesAt r c) a
+    go : (b : Bool) → ltb c bmpSize ≡ b → GivesPart t (categoriesAt r c) a
     go true e = by-flat r t c s a flat (ltb-true c bmpSize e) (index-even r t flat) (uses true e) l
     go false e = by-rows r t c s a left (index-even r t flat) (uses false e) l

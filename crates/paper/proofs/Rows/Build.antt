@@ -1,10 +1,10 @@
 -- The exact needs are the lengths of what is filled (`exact`), rooms of the stated sizes are never below them, and 16 is given exactly when
 -- the rows are not all short.
 -- Assumes nothing.
-use Prim.Native.Nat.{ℕ, suc, _+_}
-use mathlib.Core.Path.{_≡_, refl, sym, ap, ap₂, _∙_}
+use Prim.Native.Nat.{ℕ}
+use mathlib.Core.Path.{_≡_, refl, sym, ap₂, _∙_}
 use mathlib.Core.Bool.{Bool, true, false, not, _&&_, _||_}
-use mathlib.Core.List.{List, [], _∷_, map}
+use mathlib.Core.List.{List, [], _∷_}
 use mathlib.Core.Option.{some}
 use lib.Dec.{leb, ltb}
 use lib.ListN.{length, length-map}
@@ -12,13 +12,14 @@ use borrow.Author.Tests.{leb-true, leb-false, lt-ltb, le-ltb}
 use Rattle.paper.specs.Sizes.{maxRows, maxRowPlaces, maxPackBytes, maxFlatRow, bmpSize}
 use Rattle.paper.specs.Lists.{all, any}
 use Rattle.paper.specs.CharDef.Reading.{Reading}
-use Rattle.paper.specs.Rows.Covering.{boundaries, rows}
-use Rattle.paper.specs.Rows.Flat.{shortRows, flatIndex, flatPool}
-use Rattle.paper.specs.Rows.Build.{rowsNeeded, placesNeeded, rowOverlong, built, rowsBuilt, flatBuilt, packWritten, offsets}
+use Rattle.paper.specs.Rows.Covering.{rows}
+use Rattle.paper.specs.Rows.Flat.{shortRows, flatPool}
+use Rattle.paper.specs.Rows.Build.{rowsNeeded, placesNeeded, rowOverlong, built, rowsBuilt, flatBuilt, packWritten, ExactNeeds}
 use Rattle.paper.specs.Pack.Rules.{PackRules}
+use Rattle.paper.proofs.Lists.Facts.{joined-length, offsets-length}
 use Rattle.paper.proofs.Rows.Boundaries.{row-for-each}
 use Rattle.paper.proofs.Rows.Sizes.{boundaries-fit, places-fit}
-use Rattle.paper.proofs.Rows.Flat.{joined-length, index-length}
+use Rattle.paper.proofs.Rows.Flat.{index-length}
 use Rattle.paper.proofs.Pack.Size.{pack-length}
 
 above : (m n : ℕ) → ltb m n ≡ not (leb n m)
@@ -41,20 +42,8 @@ overlong-is r = go (rows r)
     go [] = refl
     go (w ∷ ws) = ap₂ (λ x y. x || y) (above maxFlatRow (length w)) (go ws) ∙ demorgan (leb (length w) maxFlatRow) _
 
-pub offsets-length : (at : ℕ) (ws : List (List ℕ)) → length (offsets at ws) ≡ length ws
-unfolding offsets
-offsets-length at [] = refl
-offsets-length at (w ∷ ws) = ap suc (offsets-length (at + length w) ws)
-
 -- the exact needs are the lengths of what is filled
-pub record Exact (r : Reading) : Type 0 where
-  pub of-boundaries : rowsNeeded r ≡ length (boundaries r)
-  pub of-starts : rowsNeeded r ≡ length (offsets 0 (rows r))
-  pub of-lengths : rowsNeeded r ≡ length (map length (rows r))
-  pub of-pool : placesNeeded r ≡ length (flatPool r)
-  pub of-index : bmpSize ≡ length (flatIndex r)
-
-pub exact : (r : Reading) → Exact r
+pub exact : (r : Reading) → ExactNeeds r
 unfolding rowsNeeded placesNeeded flatPool
 exact r =
     record {

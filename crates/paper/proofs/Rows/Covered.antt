@@ -10,9 +10,8 @@ use mir.Facts.{T-not}
 use borrow.Author.Tests.{eqb-true}
 use Rattle.paper.specs.Lists.{empty, any, select, joined, freshAfter, firstSeen, positionOf, same, distinct}
 use Rattle.paper.specs.CharDef.Reading.{Range, Reading}
-use Rattle.paper.specs.Rows.Covering.{holds, covers, named, defaults, orElse, categoriesAt, default}
-use Rattle.paper.proofs.Lists.Facts.{T→true, T→false, true→T}
-use Rattle.paper.proofs.CharDef.Sound.{false→T}
+use Rattle.paper.specs.Rows.Covering.{rangeHolds, covers, named, defaults, orElse, categoriesAt, default}
+use Rattle.paper.proofs.Lists.Facts.{T→true, T→false, true→T, false→T, any-append}
 use Rattle.paper.proofs.Rows.Sizes.{fresh-distinct}
 
 -- no category twice
@@ -27,14 +26,6 @@ no-repeats r c = go (named r c) (fresh-distinct [] (covers r c))
     go : (l : List ℕ) → T (distinct l) → T (distinct (orElse l (defaults r)))
     go [] d = alone (any (same default) (r .names)) _
     go (x ∷ l) d = d
-
-any-append : {A : Type 0} (p : A → Bool) (s t : List A) → any p (s ++ t) ≡ (any p s || any p t)
-any-append p [] t = refl
-any-append p (x ∷ s) t = go (p x) (any-append p s t)
-  where
-    go : (b : Bool) → any p (s ++ t) ≡ (any p s || any p t) → (b || any p (s ++ t)) ≡ (b || any p s || any p t)
-    go true ih = refl
-    go false ih = ih
 
 -- first sights have the elements that the list has
 fresh-any : (before l : List ℕ) (x : ℕ) → (any (eqb x) before || any (eqb x) (freshAfter eqb before l)) ≡ (any (eqb x) before || any (eqb x) l)
@@ -58,20 +49,20 @@ fresh-any before (y ∷ l) x = go (any (eqb y) before) refl (eqb x y) refl (any 
     go false e true i false k ih = rw i
     go false e false i false k ih = rw i (rw (i, k) at ih)
 
-covers-any : (gs : List Range) (c x : ℕ) → any (eqb x) (joined (map (λ g. g .categories) (select (holds c) gs))) ≡ any (λ g. holds c g && any (eqb x) (g .categories)) gs
+covers-any : (gs : List Range) (c x : ℕ) → any (eqb x) (joined (map (λ g. g .categories) (select (rangeHolds c) gs))) ≡ any (λ g. rangeHolds c g && any (eqb x) (g .categories)) gs
 covers-any [] c x = refl
-covers-any (g ∷ gs) c x = go (holds c g) (covers-any gs c x)
+covers-any (g ∷ gs) c x = go (rangeHolds c g) (covers-any gs c x)
   where
     R : List Range
-    R = select (holds c) gs
+    R = select (rangeHolds c) gs
 
-    go : (b : Bool) → any (eqb x) (joined (map (λ g. g .categories) R)) ≡ any (λ g. holds c g && any (eqb x) (g .categories)) gs
-        → any (eqb x) (joined (map (λ g. g .categories) (cond b (g ∷ R) R))) ≡ ((b && any (eqb x) (g .categories)) || any (λ g. holds c g && any (eqb x) (g .categories)) gs)
+    go : (b : Bool) → any (eqb x) (joined (map (λ g. g .categories) R)) ≡ any (λ g. rangeHolds c g && any (eqb x) (g .categories)) gs
+        → any (eqb x) (joined (map (λ g. g .categories) (cond b (g ∷ R) R))) ≡ ((b && any (eqb x) (g .categories)) || any (λ g. rangeHolds c g && any (eqb x) (g .categories)) gs)
     go true ih = any-append (eqb x) (g .categories) (joined (map (λ g. g .categories) R)) ∙ ap (λ b. any (eqb x) (g .categories) || b) ih
     go false ih = ih
 
 -- exactly the categories of the ranges that hold c
-pub exactly-covered : (r : Reading) (c x : ℕ) → any (eqb x) (named r c) ≡ any (λ g. holds c g && any (eqb x) (g .categories)) (r .ranges)
+pub exactly-covered : (r : Reading) (c x : ℕ) → any (eqb x) (named r c) ≡ any (λ g. rangeHolds c g && any (eqb x) (g .categories)) (r .ranges)
 unfolding named
 exactly-covered r c x = fresh-any [] (covers r c) x ∙ covers-any (r .ranges) c x
 
@@ -113,17 +104,17 @@ unfolding named
 first-sight-order r c x y = fresh-order [] (covers r c) x y tt tt
 
 -- with and without a range that holds c and names a category
-covers-none : (gs : List Range) (c : ℕ) → any (λ g. holds c g && not (empty (g .categories))) gs ≡ not (empty (joined (map (λ g. g .categories) (select (holds c) gs))))
+covers-none : (gs : List Range) (c : ℕ) → any (λ g. rangeHolds c g && not (empty (g .categories))) gs ≡ not (empty (joined (map (λ g. g .categories) (select (rangeHolds c) gs))))
 covers-none [] c = refl
-covers-none (g ∷ gs) c = go (holds c g) (g .categories) (covers-none gs c)
+covers-none (g ∷ gs) c = go (rangeHolds c g) (g .categories) (covers-none gs c)
   where
     R : List ℕ
-    R = joined (map (λ g. g .categories) (select (holds c) gs))
+    R = joined (map (λ g. g .categories) (select (rangeHolds c) gs))
 
     S : Bool
-    S = any (λ g. holds c g && not (empty (g .categories))) gs
+    S = any (λ g. rangeHolds c g && not (empty (g .categories))) gs
 
-    split : (b : Bool) → empty (joined (map (λ g. g .categories) (cond b (g ∷ select (holds c) gs) (select (holds c) gs)))) ≡ empty (cond b (g .categories ++ R) R)
+    split : (b : Bool) → empty (joined (map (λ g. g .categories) (cond b (g ∷ select (rangeHolds c) gs) (select (rangeHolds c) gs)))) ≡ empty (cond b (g .categories ++ R) R)
     split true = refl
     split false = refl
 
@@ -132,10 +123,10 @@ covers-none (g ∷ gs) c = go (holds c g) (g .categories) (covers-none gs c)
     go′ true (x ∷ l) ih = refl
     go′ false l ih = ih
 
-    go : (b : Bool) (l : List ℕ) → S ≡ not (empty R) → ((b && not (empty (g .categories))) || S) ≡ not (empty (joined (map (λ g. g .categories) (cond b (g ∷ select (holds c) gs) (select (holds c) gs)))))
+    go : (b : Bool) (l : List ℕ) → S ≡ not (empty R) → ((b && not (empty (g .categories))) || S) ≡ not (empty (joined (map (λ g. g .categories) (cond b (g ∷ select (rangeHolds c) gs) (select (rangeHolds c) gs)))))
     go b l ih = go′ b (g .categories) ih ∙ ap not (sym (split b))
 
-pub categories-named : (r : Reading) (c : ℕ) → T (any (λ g. holds c g && not (empty (g .categories))) (r .ranges)) → categoriesAt r c ≡ named r c
+pub categories-named : (r : Reading) (c : ℕ) → T (any (λ g. rangeHolds c g && not (empty (g .categories))) (r .ranges)) → categoriesAt r c ≡ named r c
 unfolding categoriesAt named
 categories-named r c t = go (covers r c) (subst T (covers-none (r .ranges) c) t)
   where
@@ -143,7 +134,7 @@ categories-named r c t = go (covers r c) (subst T (covers-none (r .ranges) c) t)
     go [] n = absurd n
     go (x ∷ l) n = refl
 
-pub categories-default : (r : Reading) (c : ℕ) → T (not (any (λ g. holds c g && not (empty (g .categories))) (r .ranges))) → categoriesAt r c ≡ defaults r
+pub categories-default : (r : Reading) (c : ℕ) → T (not (any (λ g. rangeHolds c g && not (empty (g .categories))) (r .ranges))) → categoriesAt r c ≡ defaults r
 unfolding categoriesAt named
 categories-default r c t = go (covers r c) (subst (λ b. T (not b)) (covers-none (r .ranges) c) t)
   where

@@ -11,13 +11,11 @@ use mir.Facts.{and-yes}
 use borrow.Author.Tests.{eqb-true, ltb-false, le-ltb}
 use Rattle.paper.specs.Lists.{any, positionOf, distinct}
 use Rattle.paper.specs.CharDef.Reading.{Reading}
-use Rattle.paper.specs.Rows.Covering.{holds, covers, named}
+use Rattle.paper.specs.Rows.Covering.{rangeHolds, covers, named}
+use Rattle.paper.proofs.Apart.{true-false}
 use Rattle.paper.proofs.Lists.Facts.{T→true, T→false}
 use Rattle.paper.proofs.Rows.Sizes.{fresh-distinct}
 use Rattle.paper.proofs.Rows.Covered.{exactly-covered, first-sight-order}
-
-true-false {ℓ} : {X : Type ℓ} → true ≡ false → X
-true-false e = absurd (subst T e tt)
 
 position-most : (x : ℕ) (l : List ℕ) → positionOf eqb x l ≤ length l
 position-most x [] = zero-le
@@ -111,7 +109,7 @@ alike-same (x ∷ l) (y ∷ m) d e a =
 
 -- so the three laws of the covering rule leave one list
 pub named-decided : (r : Reading) (c : ℕ) (l : List ℕ) → T (distinct l)
-    → ((x : ℕ) → any (eqb x) l ≡ any (λ g. holds c g && any (eqb x) (g .categories)) (r .ranges))
+    → ((x : ℕ) → any (eqb x) l ≡ any (λ g. rangeHolds c g && any (eqb x) (g .categories)) (r .ranges))
     → ((x y : ℕ) → ltb (positionOf eqb x l) (positionOf eqb y l) ≡ ltb (positionOf eqb x (covers r c)) (positionOf eqb y (covers r c)))
     → l ≡ named r c
 unfolding named

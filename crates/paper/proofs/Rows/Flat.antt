@@ -7,15 +7,16 @@ use native.Mathlib.Omega.{arith}
 use mathlib.Core.Path.{_≡_, refl, ap, _∙_}
 use mathlib.Core.List.{List, [], _∷_, map}
 use lib.Dec.{T, leb}
-use lib.ListN.{length, getD, take, drop, length-append, length-map}
+use lib.ListN.{length, getD, take, drop, length-map}
 use lib.Seq.{take-append-seam, drop-append-add}
 use mir.Facts.{and-yes, leb-yes}
 use Rattle.paper.specs.Sizes.{maxFlatRow, maxRowPlaces, maxU32, bmpSize}
 use Rattle.paper.specs.Lists.{all, joined, sum}
 use Rattle.paper.specs.CharDef.Reading.{Reading, Within}
 use Rattle.paper.specs.Rows.Covering.{categoriesAt, boundaries, rows}
-use Rattle.paper.specs.Rows.Flat.{rowNumber, entry, entryOffset, entryLength, maxOffset, offsetOf, flatEntry, entryPart, shortRows, counting, flatIndex, flatPool}
+use Rattle.paper.specs.Rows.Flat.{rowNumber, entryOf, entryOffset, entryLength, maxOffset, offsetOf, flatEntry, entryPart, shortRows, counting, flatIndex, flatPool}
 use Rattle.paper.specs.Pack.Rules.{numbered}
+use Rattle.paper.proofs.Lists.Facts.{joined-length}
 use Rattle.paper.proofs.Rows.Boundaries.{row-for-each}
 use Rattle.paper.proofs.Rows.Sizes.{places-fit}
 use Rattle.paper.proofs.Rows.Search.{row-found, found-row}
@@ -34,10 +35,6 @@ part-inside [] i h = absurd (not-suc-le-zero h)
 part-inside (w ∷ ws) zero h = omega arith
 part-inside (w ∷ ws) (suc i) h = let k = part-inside ws i (le-of-suc-le-suc h) in omega arith
 
-pub joined-length : (ws : List (List ℕ)) → length (joined ws) ≡ sum (map length ws)
-joined-length [] = refl
-joined-length (w ∷ ws) = length-append w (joined ws) ∙ ap (λ n. length w + n) (joined-length ws)
-
 row-short : (ws : List (List ℕ)) (i : ℕ) → T (shortRows ws) → length (getD ws i []) ≤ maxFlatRow
 unfolding shortRows
 row-short [] i t = zero-le
@@ -46,7 +43,7 @@ row-short (w ∷ ws) (suc i) t = row-short ws i (and-yes (leb (length w) maxFlat
 
 -- ---- an entry
 
-entry-parts : (o l : ℕ) → l ≤ maxFlatRow → (entryOffset (entry o l) ≡ o) × (entryLength (entry o l) ≡ l)
+entry-parts : (o l : ℕ) → l ≤ maxFlatRow → (entryOffset (entryOf o l) ≡ o) × (entryLength (entryOf o l) ≡ l)
 entry-parts o l h = (omega arith, omega arith)
 
 module _ (r : Reading) (c : ℕ) where

@@ -19,8 +19,8 @@ use Rattle.paper.specs.Text.Scalar.{isScalar, IsScalar}
 use Rattle.paper.specs.Rows.Covering.{rising}
 use Rattle.paper.specs.Rows.Flat.{RowFound, entryOffset, entryLength}
 use Rattle.paper.specs.Rows.Lookup.{Looked, gives, refuses, LookupTables, ofFlat, Part, usesFlat, flatPart, rowPart, indexOdd, fromZero, apart, lookup, Looks, packedAt}
+use Rattle.paper.proofs.Apart.{zero-one, refuses-gives}
 use Rattle.paper.proofs.Lists.Facts.{T→true, T→false, true→T}
-use Rattle.paper.proofs.CharDef.Sound.{zero-one}
 use Rattle.paper.proofs.Rows.Boundaries.{from-rising}
 use Rattle.paper.proofs.Rows.Search.{found-one, found-later}
 
@@ -34,9 +34,6 @@ pub answered : (t : LookupTables) (c i : ℕ) → IsScalar c → apart t c i ≡
 unfolding lookup
 answered t c i s e = rw (T→true (isScalar c) s, e)
 
-gives-refuses {ℓ} : {X : Type ℓ} {A : Type 0} {x : A} {n : ℕ} → gives x ≡ refuses n → X
-gives-refuses e = zero-one (cc)
-
 pub apart-exactly : (t : LookupTables) (c i : ℕ) → (lookup t c i ≡ refuses tablesApart) ↔ (IsScalar c × T (apart t c i))
 unfolding lookup
 apart-exactly t c i = (to (isScalar c) (apart t c i), λ (s, h). rw (T→true (isScalar c) s, T→true (apart t c i) h))
@@ -44,7 +41,7 @@ apart-exactly t c i = (to (isScalar c) (apart t c i), λ (s, h). rw (T→true (i
     to : (s h : Bool) → cond s (cond h (refuses tablesApart) (gives (cond (usesFlat t c) (flatPart t c) (rowPart t i)))) (refuses notScalar) ≡ refuses tablesApart
         → T s × T h
     to true true e = (tt, tt)
-    to true false e = gives-refuses e
+    to true false e = refuses-gives (sym e)
     to false h e = absurd (never e)
       where
         never : _≡_ {A = Looked Part} (refuses notScalar) (refuses tablesApart) → ⊥
@@ -117,10 +114,10 @@ packed-same t c e p h l = go (isScalar c) (ltb c bmpSize && not (empty (t .index
         → cond s (cond u (cond k (gives (some (getD (t .index) c 0))) (refuses tablesApart)) (gives none)) (refuses notScalar) ≡ gives (some e)
         → gives p ≡ cond s (cond w (refuses tablesApart) (gives (cond u (flatPart t c) (rowPart t (l .row))))) (refuses notScalar)
         → p ≡ record { from = ofFlat; start = entryOffset e; len = entryLength e }
-    go false u k w a b = gives-refuses b
-    go true u k true a b = gives-refuses b
+    go false u k w a b = refuses-gives (sym b)
+    go true u k true a b = refuses-gives (sym b)
     go true false k false a b = zero-one (cc)
-    go true true false false a b = gives-refuses (sym a)
+    go true true false false a b = refuses-gives a
     go true true true false a b =
         let q : getD (t .index) c 0 ≡ e = cc in
         let i : p ≡ flatPart t c = cc in

@@ -1,95 +1,26 @@
--- Demand 2 over the reading of an accepted text, gathered: at every scalar value a lookup over tables as built answers the covering ranges'
--- distinct categories in first-seen order, by rows and by the flat table; all of it fits its tables; names and numbers come back.
+-- Demand 2 over the reading of an accepted text: every law of the rows, gathered from the files that prove them.
 -- Assumes nothing.
-use Prim.Native.Nat.{ℕ, _*_, _<_, _≤_}
-use mathlib.Core.Path.{_≡_, sym, ap, ap₂, _∙_, subst}
-use mathlib.Core.Bool.{not, _&&_}
-use mathlib.Core.List.{List, [], map}
-use mathlib.Core.Option.{some}
-use lib.Dec.{T, ltb, eqb}
-use lib.ListN.{length, getD, drop, take-append-drop}
-use Rattle.paper.specs.Sizes.{maxRows, maxRowPlaces, maxU32, bmpSize}
-use Rattle.paper.specs.Refusals.{notScalar}
-use Rattle.paper.specs.Lists.{any, empty, sum, positionOf, distinct}
-use Rattle.paper.specs.Text.Scalar.{IsScalar}
+use Prim.Native.Nat.{ℕ}
+use mathlib.Core.Path.{sym, subst}
+use mathlib.Core.List.{List}
+use lib.Dec.{T}
 use Rattle.paper.specs.CharDef.Reading.{Reading, Fits}
-use Rattle.paper.specs.Rows.Covering.{rising, Boundaries, boundaries, holds, covers, named, defaults, categoriesAt, rows}
-use Rattle.paper.specs.Rows.Flat.{evalRow, entryOffset, entryLength, maxOffset, flatEntry, entryPart, shortRows, flatPool}
-use Rattle.paper.specs.Rows.Lookup.{Looked, gives, refuses, LookupTables, Part, ofFlat, Looks, packedAt, FlatLeft, AsBuilt, without-flat, with-flat}
-use Rattle.paper.specs.Rows.Numbers.{lowest, findName, definitionAt, nameAt, lookupDefinition, categoryName, nameOf}
+use Rattle.paper.specs.Rows.Covering.{rising, boundaries}
+use Rattle.paper.specs.Rows.Lookup.{LookupTables, AsBuilt, without-flat, with-flat}
+use Rattle.paper.specs.Rows.Lookups.{Lookups}
 use Rattle.paper.specs.Pack.Rules.{PackRules}
-use Rattle.paper.specs.Tables.Layout.{Tables, used, behind}
-use Rattle.paper.specs.Tables.HandedIn.{HoldTogether}
-use Rattle.paper.specs.Computed.HandedIn.{handedIn}
-use Rattle.paper.specs.declared.Counts.{Counts}
 use Rattle.paper.proofs.Text.Scalar.{surrogate, beyond}
 use Rattle.paper.proofs.Rows.Boundaries.{boundaries-are, row-for-each}
 use Rattle.paper.proofs.Rows.Sizes.{rows-fit, places-fit}
 use Rattle.paper.proofs.Rows.Covered.{no-repeats, exactly-covered, first-sight-order, categories-named, categories-default}
 use Rattle.paper.proofs.Rows.Search.{every-row}
 use Rattle.paper.proofs.Rows.Flat.{flat-part, offset-fits, entry-fits}
-use Rattle.paper.proofs.Rows.Build.{Exact, exact}
+use Rattle.paper.proofs.Rows.Build.{exact}
 use Rattle.paper.proofs.Rows.Lookup.{no-scalar, looks-one, looks-some, packed-same}
-use Rattle.paper.proofs.Rows.AsBuilt.{Holds, looked-up, packed-there}
+use Rattle.paper.proofs.Rows.AsBuilt.{looked-up, packed-there}
 use Rattle.paper.proofs.Rows.Numbers.{name-found, name-back, number-name, number-definition}
 use Rattle.paper.proofs.Pack.Kept.{fits-rules}
-use Rattle.paper.proofs.Tables.Trip.{tables-is, handed-in}
-
-pub record Lookups (r : Reading) : Type 0 where
-  -- boundaries and rows
-  pub bounded : Boundaries r (boundaries r)
-  pub a-row-each : length (rows r) ≡ length (boundaries r)
-  pub rows-few : length (rows r) ≤ maxRows
-  pub places-few : sum (map length (rows r)) ≤ maxRowPlaces
-  -- what 17 asks for is what is filled
-  pub needs : Exact r
-  -- at every number, by rows and by flat entries
-  pub by-row : (c : ℕ) → evalRow (boundaries r) (rows r) c ≡ categoriesAt r c
-  pub by-entry : (c : ℕ) → T (shortRows (rows r)) → entryPart (flatEntry r c) (flatPool r) ≡ categoriesAt r c
-  pub offset-fits : (c : ℕ) → T (shortRows (rows r)) → entryOffset (flatEntry r c) ≤ maxOffset
-  pub entry-fits : (c : ℕ) → T (shortRows (rows r)) → flatEntry r c ≤ maxU32
-  -- the covering rule: distinct categories of the ranges that hold c, in first-seen order; with none, DEFAULT if it is interned
-  pub distinct-row : (c : ℕ) → T (distinct (categoriesAt r c))
-  pub exactly : (c x : ℕ) → any (eqb x) (named r c) ≡ any (λ g. holds c g && any (eqb x) (g .categories)) (r .ranges)
-  pub first-seen : (c x y : ℕ)
-      → ltb (positionOf eqb x (named r c)) (positionOf eqb y (named r c)) ≡ ltb (positionOf eqb x (covers r c)) (positionOf eqb y (covers r c))
-  pub with-some : (c : ℕ) → T (any (λ g. holds c g && not (empty (g .categories))) (r .ranges)) → categoriesAt r c ≡ named r c
-  pub with-none : (c : ℕ) → T (not (any (λ g. holds c g && not (empty (g .categories))) (r .ranges))) → categoriesAt r c ≡ defaults r
-  -- over any tables a lookup has an answer
-  pub answer : (t : LookupTables) (c : ℕ) → (a : Looked Part) × Looks t c a
-  -- over tables as built: one answer, at a scalar value the part that holds the covering rule, at any other number 14
-  pub answers : (t : LookupTables) (c : ℕ) (a : Looked Part) → AsBuilt r t → IsScalar c → Looks t c a → Holds t (categoriesAt r c) a
-  pub one-answer : (t : LookupTables) (c : ℕ) (a b : Looked Part) → AsBuilt r t → Looks t c a → Looks t c b → a ≡ b
-  pub no-surrogate : (t : LookupTables) (c : ℕ) (a : Looked Part) → 0xD800 ≤ c → c ≤ 0xDFFF → Looks t c a → a ≡ refuses notScalar
-  pub nothing-beyond : (t : LookupTables) (c : ℕ) (a : Looked Part) → 0x10FFFF < c → Looks t c a → a ≡ refuses notScalar
-  -- the packed entry, and that it addresses the part which the lookup answers
-  pub packed : (t : LookupTables) (c : ℕ) → FlatLeft r t → IsScalar c → c < bmpSize → packedAt (t .index) c ≡ gives (some (flatEntry r c))
-  pub packed-part : (t : LookupTables) (c e : ℕ) (p : Part) → packedAt (t .index) c ≡ gives (some e) → Looks t c (gives p)
-      → p ≡ record { from = ofFlat; start = entryOffset e; len = entryLength e }
-  -- names and numbers, over tables in which the reading stands
-  pub finds : (t : Tables) (n : Counts) (name : List ℕ) → HoldTogether t n r
-      → findName (t .names) (t .categories) (n .categories) name ≡ gives (lowest name (r .names))
-  pub finds-back : (t : Tables) (n : Counts) (k : ℕ) → HoldTogether t n r → k < length (r .names)
-      → findName (t .names) (t .categories) (n .categories) (getD (r .names) k []) ≡ gives (some k)
-  pub names : (t : Tables) (n : Counts) (k : ℕ) → HoldTogether t n r
-      → nameOf (t .names) (categoryName (t .names) (t .categories) (n .categories) k) ≡ nameAt r k
-  pub defines : (t : Tables) (n : Counts) (k : ℕ) → HoldTogether t n r → lookupDefinition (t .definitions) (n .definitions) k ≡ definitionAt r k
-
--- tables in which a reading stands are handed in as it
-stands : (t : Tables) (n : Counts) (r : Reading) → HoldTogether t n r → handedIn t n ≡ some r
-unfolding used behind
-stands t n r h =
-    let rest : Tables = record {
-      names = drop (n .bytes) (t .names);
-      categories = drop (4 * n .categories) (t .categories);
-      definitions = drop (6 * n .definitions) (t .definitions);
-      ranges = drop (8 * n .ranges) (t .ranges);
-      references = drop (2 * n .references) (t .references);
-    } in
-    let whole : behind (used n t) rest ≡ t =
-    tables-is t _ _ _ _ _ (take-append-drop (n .bytes) (t .names)) (take-append-drop (4 * n .categories) (t .categories))
-    (take-append-drop (6 * n .definitions) (t .definitions)) (take-append-drop (8 * n .ranges) (t .ranges)) (take-append-drop (2 * n .references) (t .references)) in
-    ap₂ handedIn (sym (ap (λ u. behind u rest) (h .laid-out) ∙ whole)) (sym (h .counted)) ∙ handed-in r rest (h .rules)
+use Rattle.paper.proofs.Tables.Holds.{stands-handed}
 
 built-rises : (r : Reading) (t : LookupTables) → AsBuilt r t → T (rising (t .boundaries))
 built-rises r t (without-flat l e) = subst (λ bs. T (rising bs)) (sym (l .boundaries-are)) (boundaries-are r .ascending)
@@ -122,8 +53,8 @@ lookups bytes r f = go (fits-rules bytes r f)
           nothing-beyond = λ t c a h. no-scalar t c a (beyond c h);
           packed = λ t c f. packed-there r t f c;
           packed-part = packed-same;
-          finds = λ t n name h. name-found t n r (stands t n r h) name;
-          finds-back = λ t n k h. name-back t n r (stands t n r h) k;
-          names = λ t n k h. number-name t n r (stands t n r h) k;
-          defines = λ t n k h. number-definition t n r (stands t n r h) k;
+          finds = λ t n name h. name-found t n r (stands-handed t n r h) name;
+          finds-back = λ t n k h. name-back t n r (stands-handed t n r h) k;
+          names = λ t n k h. number-name t n r (stands-handed t n r h) k;
+          defines = λ t n k h. number-definition t n r (stands-handed t n r h) k;
         }

@@ -10,28 +10,23 @@ use lib.Dec.{T}
 use lib.ListN.{length, getD}
 use mir.Facts.{and-yes, T-not}
 use Rattle.paper.specs.Lists.{any, positionOf, same}
+use Rattle.paper.specs.Rows.Numbers.{lowestNamed, LowestNamed}
 use Rattle.paper.specs.Pack.Rules.{onceAfter}
-use Rattle.paper.specs.Rows.Numbers.{lowest}
-use Rattle.paper.proofs.Lists.Facts.{T→true, T→false, true→T}
+use Rattle.paper.proofs.Apart.{none-some}
+use Rattle.paper.proofs.Lists.Facts.{T→true, T→false, true→T, false→T}
 use Rattle.paper.proofs.Lists.Seen.{same-eq, same-refl}
-use Rattle.paper.proofs.CharDef.Sound.{false→T, zero-one}
 
 -- where x is there, it stands at its position and nowhere before
-pub record First (x : List ℕ) (ns : List (List ℕ)) (k : ℕ) : Type 0 where
-  pub inside : k < length ns
-  pub there : getD ns k [] ≡ x
-  pub not-before : (j : ℕ) → j < k → getD ns j [] ≡ x → ⊥
-
-position-first : (x : List ℕ) (ns : List (List ℕ)) → T (any (same x) ns) → First x ns (positionOf same x ns)
+position-first : (x : List ℕ) (ns : List (List ℕ)) → T (any (same x) ns) → LowestNamed x ns (positionOf same x ns)
 position-first x [] t = absurd t
 position-first x (n ∷ ns) t = go (same x n) refl t (position-first x ns)
   where
-    go : (b : Bool) → same x n ≡ b → T (b || any (same x) ns) → (T (any (same x) ns) → First x ns (positionOf same x ns))
-        → First x (n ∷ ns) (cond b zero (suc (positionOf same x ns)))
+    go : (b : Bool) → same x n ≡ b → T (b || any (same x) ns) → (T (any (same x) ns) → LowestNamed x ns (positionOf same x ns))
+        → LowestNamed x (n ∷ ns) (cond b zero (suc (positionOf same x ns)))
     go true e t ih = record { inside = suc-le-suc zero-le; there = sym (same-eq x n (true→T _ e)); not-before = λ j h. absurd (not-suc-le-zero h) }
     go false e t ih = let f = ih t in record { inside = suc-le-suc (f .inside); there = f .there; not-before = before f }
       where
-        before : First x ns (positionOf same x ns) → (j : ℕ) → j < suc (positionOf same x ns) → getD (n ∷ ns) j [] ≡ x → ⊥
+        before : LowestNamed x ns (positionOf same x ns) → (j : ℕ) → j < suc (positionOf same x ns) → getD (n ∷ ns) j [] ≡ x → ⊥
         before f zero h q = T-not (same x n) (subst (λ m. T (same m n)) q (same-refl n)) (false→T _ e)
         before f (suc j) h q = f .not-before j (le-of-suc-le-suc h) q
 
@@ -45,23 +40,20 @@ not-any x (n ∷ ns) e j h q = go (same x n) refl e j h q (not-any x ns)
     go false d e zero h q ih = T-not (same x n) (subst (λ m. T (same m n)) q (same-refl n)) (false→T _ d)
     go false d e (suc j) h q ih = ih e j (le-of-suc-le-suc h) q
 
-pub some-none {ℓ} : {X : Type ℓ} {k : ℕ} → some k ≡ none → X
-some-none e = zero-one (cc)
-
-pub lowest-first : (x : List ℕ) (ns : List (List ℕ)) (k : ℕ) → lowest x ns ≡ some k → First x ns k
-unfolding lowest
+pub lowest-first : (x : List ℕ) (ns : List (List ℕ)) (k : ℕ) → lowestNamed x ns ≡ some k → LowestNamed x ns k
+unfolding lowestNamed
 lowest-first x ns k e = go (any (same x) ns) refl e
   where
-    go : (b : Bool) → any (same x) ns ≡ b → cond b (some (positionOf same x ns)) none ≡ some k → First x ns k
-    go true d e = let q : positionOf same x ns ≡ k = cc in subst (First x ns) q (position-first x ns (true→T _ d))
-    go false d e = some-none (sym e)
+    go : (b : Bool) → any (same x) ns ≡ b → cond b (some (positionOf same x ns)) none ≡ some k → LowestNamed x ns k
+    go true d e = let q : positionOf same x ns ≡ k = cc in subst (LowestNamed x ns) q (position-first x ns (true→T _ d))
+    go false d e = none-some e
 
-pub lowest-absent : (x : List ℕ) (ns : List (List ℕ)) → lowest x ns ≡ none → (j : ℕ) → j < length ns → getD ns j [] ≡ x → ⊥
-unfolding lowest
+pub lowest-absent : (x : List ℕ) (ns : List (List ℕ)) → lowestNamed x ns ≡ none → (j : ℕ) → j < length ns → getD ns j [] ≡ x → ⊥
+unfolding lowestNamed
 lowest-absent x ns e = go (any (same x) ns) refl e
   where
     go : (b : Bool) → any (same x) ns ≡ b → cond b (some (positionOf same x ns)) none ≡ none → (j : ℕ) → j < length ns → getD ns j [] ≡ x → ⊥
-    go true d e = some-none e
+    go true d e = none-some (sym e)
     go false d e = not-any x ns d
 
 -- where no name stands twice, a name's number is its place
@@ -75,8 +67,8 @@ once-apart before (n ∷ ns) (suc k) t h =
     or-false true b e = absurd (subst T e tt)
     or-false false b e = (refl, e)
 
-pub once-lowest : (before ns : List (List ℕ)) (k : ℕ) → T (onceAfter before ns) → k < length ns → lowest (getD ns k []) ns ≡ some k
-unfolding lowest
+pub once-lowest : (before ns : List (List ℕ)) (k : ℕ) → T (onceAfter before ns) → k < length ns → lowestNamed (getD ns k []) ns ≡ some k
+unfolding lowestNamed
 once-lowest before [] k t h = absurd (not-suc-le-zero h)
 once-lowest before (n ∷ ns) zero t h = rw (T→true (same n n) (same-refl n))
 once-lowest before (n ∷ ns) (suc k) t h = rw (apart-here (once-apart (n ∷ before) ns k u j)) (more (any (same (getD ns k [])) ns) (once-lowest (n ∷ before) ns k u j))
@@ -96,4 +88,4 @@ once-lowest before (n ∷ ns) (suc k) t h = rw (apart-here (once-apart (n ∷ be
 
     more : (b : Bool) → cond b (some (positionOf same (getD ns k []) ns)) none ≡ some k → cond b (some (suc (positionOf same (getD ns k []) ns))) none ≡ some (suc k)
     more true e = let q : positionOf same (getD ns k []) ns ≡ k = cc in ap (λ m. some (suc m)) q
-    more false e = some-none (sym e)
+    more false e = none-some e

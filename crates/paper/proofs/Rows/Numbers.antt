@@ -16,15 +16,15 @@ use borrow.Author.Tests.{leb-true, leb-false, le-ltb}
 use Rattle.paper.specs.Refusals.{numberUnknown}
 use Rattle.paper.specs.Lists.{all, any}
 use Rattle.paper.specs.CharDef.Reading.{Reading}
-use Rattle.paper.specs.Pack.Rules.{once}
 use Rattle.paper.specs.Rows.Lookup.{gives, refuses}
-use Rattle.paper.specs.Rows.Numbers.{slotWidth, definitionWidth, nameSlotsOf, nameIn, pastStore, lowest, findName, numberOf, definitionAt, nameAt, entryAt, lookupDefinition, categoryName, nameOf}
-use Rattle.paper.specs.Tables.Layout.{NameSlot, Tables, pieces, nameSlotOf, definitionOf, split}
+use Rattle.paper.specs.Rows.Numbers.{nameSlotsOf, nameIn, pastStore, lowestNamed, findName, numberOf, definitionAt, nameAt, entryAt, lookupDefinition, categoryName, nameOf}
+use Rattle.paper.specs.Pack.Rules.{once}
+use Rattle.paper.specs.Tables.Layout.{NameSlot, Tables, pieces, nameSlotOf, definitionOf, split, definitionSize, nameSlotSize}
 use Rattle.paper.specs.Computed.HandedIn.{nameSlotsStand, slotsStand, flagged, nameSlotsIn, namesIn, slotsIn, numbersIn, enough, decoded, holds, handedIn}
 use Rattle.paper.specs.Computed.Rules.{formed}
 use Rattle.paper.specs.declared.Counts.{Counts}
+use Rattle.paper.proofs.Apart.{zero-one}
 use Rattle.paper.proofs.Lists.Facts.{true→T}
-use Rattle.paper.proofs.CharDef.Sound.{zero-one}
 use Rattle.paper.proofs.Rows.Lowest.{once-lowest}
 use Rattle.paper.proofs.Tables.Laws.{pieces-length}
 use Rattle.paper.proofs.Tables.Trip.{Enough, says}
@@ -100,7 +100,7 @@ held t n r e = go (holds t n) refl e
         let q : decoded t n ≡ r = cc in
         let h0 = and-yes (enough (length (t .names)) (length (t .categories)) (length (t .definitions)) (length (t .ranges)) (length (t .references)) n) _ (true→T (holds t n) d) in
         let h1 = and-yes (nameSlotsStand (n .bytes) 0 (nameSlotsIn t n)) _ (h0 .1) in
-        let h2 = and-yes (all flagged (pieces 6 (n .definitions) (t .definitions))) _ (h1 .1) in
+        let h2 = and-yes (all flagged (pieces definitionSize (n .definitions) (t .definitions))) _ (h1 .1) in
         let h3 = and-yes (slotsStand (n .references) 0 (slotsIn t n)) _ (h2 .1) in
         let h4 = and-yes (all (λ c. ltb c (n .categories)) (numbersIn t n)) _ (h3 .1) in
         let h5 = and-yes (all formed (namesIn t n)) (once (namesIn t n)) (h4 .1) in
@@ -119,11 +119,11 @@ module _ (t : Tables) (n : Counts) (r : Reading) (e : handedIn t n ≡ some r) w
   names-cut = cut .0 ∙ ap (λ s. s .names) (h .is)
 
   -- the lowest number with that name in the reading, or absent
-  pub name-found : (name : List ℕ) → findName (t .names) (t .categories) (n .categories) name ≡ gives (lowest name (r .names))
+  pub name-found : (name : List ℕ) → findName (t .names) (t .categories) (n .categories) name ≡ gives (lowestNamed name (r .names))
   unfolding findName
   name-found name =
-      rw (le-ltb (length (t .categories)) (slotWidth * n .categories) (h .long .for-categories), cut .1)
-      (ap (λ ns. gives (lowest name ns)) names-cut)
+      rw (le-ltb (length (t .categories)) (nameSlotSize * n .categories) (h .long .for-categories), cut .1)
+      (ap (λ ns. gives (lowestNamed name ns)) names-cut)
 
   -- each name's own number
   pub name-back : (k : ℕ) → k < length (r .names) → findName (t .names) (t .categories) (n .categories) (getD (r .names) k []) ≡ gives (some k)
@@ -138,13 +138,13 @@ module _ (t : Tables) (n : Counts) (r : Reading) (e : handedIn t n ≡ some r) w
           → nameOf (t .names) (categoryName (t .names) (t .categories) (n .categories) k) ≡ numberOf (map (nameIn (t .names)) (nameSlotsOf (t .categories) (n .categories))) k
       go true d =
           let i : n .categories ≤ k = leb-true (n .categories) k d in
-          let j : length (nameSlotsOf (t .categories) (n .categories)) ≤ k = rw (length-map (pieces slotWidth (n .categories) (t .categories)) nameSlotOf, pieces-length slotWidth (n .categories) (t .categories)) i in
+          let j : length (nameSlotsOf (t .categories) (n .categories)) ≤ k = rw (length-map (pieces nameSlotSize (n .categories) (t .categories)) nameSlotOf, pieces-length nameSlotSize (n .categories) (t .categories)) i in
           rw d (sym (named-number (t .names) (nameSlotsOf (t .categories) (n .categories)) k ∙ ap (nameOf (t .names)) (number-past (nameSlotsOf (t .categories) (n .categories)) k j)))
       go false d =
           let i : k < n .categories = leb-false (n .categories) k d in
-          let j : slotWidth * suc k ≤ length (t .categories) = omega (arith, h .long .for-categories) in
-          rw (d, le-ltb (length (t .categories)) (slotWidth * suc k) j, entry-test nameSlotOf slotWidth (pastStore (t .names)) (n .categories) (t .categories) k i (cut .1))
-          (sym (named-number (t .names) (nameSlotsOf (t .categories) (n .categories)) k ∙ ap (nameOf (t .names)) (entry-number nameSlotOf slotWidth (n .categories) (t .categories) k i)))
+          let j : nameSlotSize * suc k ≤ length (t .categories) = omega (arith, h .long .for-categories) in
+          rw (d, le-ltb (length (t .categories)) (nameSlotSize * suc k) j, entry-test nameSlotOf nameSlotSize (pastStore (t .names)) (n .categories) (t .categories) k i (cut .1))
+          (sym (named-number (t .names) (nameSlotsOf (t .categories) (n .categories)) k ∙ ap (nameOf (t .names)) (entry-number nameSlotOf nameSlotSize (n .categories) (t .categories) k i)))
 
   -- the definition with a number
   pub number-definition : (k : ℕ) → lookupDefinition (t .definitions) (n .definitions) k ≡ definitionAt r k
@@ -152,12 +152,12 @@ module _ (t : Tables) (n : Counts) (r : Reading) (e : handedIn t n ≡ some r) w
   number-definition k = go (leb (n .definitions) k) refl ∙ ap (λ s. numberOf (s .definitions) k) (h .is)
     where
       go : (b : Bool) → leb (n .definitions) k ≡ b
-          → lookupDefinition (t .definitions) (n .definitions) k ≡ numberOf (map definitionOf (pieces definitionWidth (n .definitions) (t .definitions))) k
+          → lookupDefinition (t .definitions) (n .definitions) k ≡ numberOf (map definitionOf (pieces definitionSize (n .definitions) (t .definitions))) k
       go true d =
           let i : n .definitions ≤ k = leb-true (n .definitions) k d in
-          let j : length (map definitionOf (pieces definitionWidth (n .definitions) (t .definitions))) ≤ k = rw (length-map (pieces definitionWidth (n .definitions) (t .definitions)) definitionOf, pieces-length definitionWidth (n .definitions) (t .definitions)) i in
-          rw d (sym (number-past (map definitionOf (pieces definitionWidth (n .definitions) (t .definitions))) k j))
+          let j : length (map definitionOf (pieces definitionSize (n .definitions) (t .definitions))) ≤ k = rw (length-map (pieces definitionSize (n .definitions) (t .definitions)) definitionOf, pieces-length definitionSize (n .definitions) (t .definitions)) i in
+          rw d (sym (number-past (map definitionOf (pieces definitionSize (n .definitions) (t .definitions))) k j))
       go false d =
           let i : k < n .definitions = leb-false (n .definitions) k d in
-          let j : definitionWidth * suc k ≤ length (t .definitions) = omega (arith, h .long .for-definitions) in
-          rw (d, le-ltb (length (t .definitions)) (definitionWidth * suc k) j) (sym (entry-number definitionOf definitionWidth (n .definitions) (t .definitions) k i))
+          let j : definitionSize * suc k ≤ length (t .definitions) = omega (arith, h .long .for-definitions) in
+          rw (d, le-ltb (length (t .definitions)) (definitionSize * suc k) j) (sym (entry-number definitionOf definitionSize (n .definitions) (t .definitions) k i))

@@ -14,11 +14,10 @@ use borrow.Author.Tests.{eqb-true, eqb-false}
 use Rattle.paper.specs.Sizes.{maxCategories, maxRows, maxRowPlaces}
 use Rattle.paper.specs.Lists.{all, any, select, joined, sum, freshAfter, positionOf, same, distinct}
 use Rattle.paper.specs.CharDef.Reading.{Range, Reading, Within}
-use Rattle.paper.specs.Rows.Covering.{holds, named, defaults, orElse, categoriesAt, insert, ascending, boundaries, rows, default}
+use Rattle.paper.specs.Rows.Covering.{rangeHolds, named, defaults, orElse, categoriesAt, insert, ascending, boundaries, rows, default}
 use Rattle.paper.specs.Rows.Flat.{maxOffset}
 use Rattle.paper.specs.Pack.Rules.{numbered}
-use Rattle.paper.proofs.Lists.Facts.{true→T, or-left, or-right, all-append}
-use Rattle.paper.proofs.CharDef.Sound.{false→T}
+use Rattle.paper.proofs.Lists.Facts.{true→T, or-left, or-right, all-append, false→T}
 use Rattle.paper.proofs.Rows.Boundaries.{row-for-each}
 
 any-select : (p q : ℕ → Bool) (l : List ℕ) → T (any p (select q l)) → T (any p l)
@@ -140,14 +139,14 @@ fresh-all p before (y ∷ l) t =
     go false a d = yes-and (p y) (all p F) a d
 
 covered-all : (p : ℕ → Bool) (c : ℕ) (gs : List Range) → T (all (λ g. all p (g .categories)) gs)
-    → T (all p (joined (map (λ g. g .categories) (select (holds c) gs))))
+    → T (all p (joined (map (λ g. g .categories) (select (rangeHolds c) gs))))
 covered-all p c [] t = tt
 covered-all p c (g ∷ gs) t =
     let h = and-yes (all p (g .categories)) (all (λ g. all p (g .categories)) gs) t in
-    go (holds c g) (h .0) (covered-all p c gs (h .1))
+    go (rangeHolds c g) (h .0) (covered-all p c gs (h .1))
   where
     rest : List Range
-    rest = select (holds c) gs
+    rest = select (rangeHolds c) gs
 
     go : (b : Bool) → T (all p (g .categories)) → T (all p (joined (map (λ g. g .categories) rest)))
         → T (all p (joined (map (λ g. g .categories) (cond b (g ∷ rest) rest))))
@@ -169,7 +168,7 @@ unfolding categoriesAt numbered
 row-length r c t = go (named r c) (distinct-length (length (r .names)) (named r c) (fresh-distinct [] covers) (fresh-all (λ k. ltb k (length (r .names))) [] covers (covered-all (λ k. ltb k (length (r .names))) c (r .ranges) t)))
   where
     covers : List ℕ
-    covers = joined (map (λ g. g .categories) (select (holds c) (r .ranges)))
+    covers = joined (map (λ g. g .categories) (select (rangeHolds c) (r .ranges)))
 
     default-case : (b : Bool) → any (same default) (r .names) ≡ b → length (cond b (positionOf same default (r .names) ∷ []) []) ≤ length (r .names)
     default-case true e = let k = position-below default (r .names) (true→T _ e) in omega arith

@@ -10,7 +10,7 @@ use borrow.Author.Tests.{le-leb}
 use Rattle.paper.specs.Lists.{joined}
 use Rattle.paper.specs.Numbers.Bytes.{le}
 use Rattle.paper.specs.CharDef.Reading.{Range, references}
-use Rattle.paper.specs.Tables.Layout.{RangeSlot, slotBytes, rangeSlots, rangeTable, referenceTable, numbersOf}
+use Rattle.paper.specs.Tables.Layout.{RangeSlot, slotBytes, rangeSlots, rangeTable, referenceTable, numbersOf, rangeSlotSize, referenceSize}
 use Rattle.paper.specs.Tables.Lent.{patch, padded}
 use Rattle.paper.proofs.Tables.Laws.{patch-in, table-length}
 use Rattle.paper.proofs.Tables.Trip.{numbers-length, rows-length, wide-row, wide-number}
@@ -103,21 +103,21 @@ references-snoc gs g =
     sym (numbers-length (gs ++ (g ∷ []))) ∙ ap length (numbers-snoc gs g) ∙ length-append (numbersOf gs) (g .categories)
     ∙ ap (λ k. k + length (g .categories)) (numbers-length gs)
 
-pub ranges-more : (gs : List Range) (g : Range) (n : ℕ) → 8 * length gs + 8 ≤ n
-    → patch (8 * length gs) (slotBytes (newSlot gs g)) (padded n (rangeTable gs)) ≡ padded n (rangeTable (gs ++ (g ∷ [])))
+pub ranges-more : (gs : List Range) (g : Range) (n : ℕ) → rangeSlotSize * length gs + rangeSlotSize ≤ n
+    → patch (rangeSlotSize * length gs) (slotBytes (newSlot gs g)) (padded n (rangeTable gs)) ≡ padded n (rangeTable (gs ++ (g ∷ [])))
 ranges-more gs g n h =
     let e : length (rangeSlots 0 gs) ≡ length gs = rows-length 0 gs in
-    let a : 8 * length gs ≡ 8 * length (rangeSlots 0 gs) = omega arith in
+    let a : rangeSlotSize * length gs ≡ rangeSlotSize * length (rangeSlots 0 gs) = omega arith in
     let z : 0 + references gs ≡ references gs = omega arith in
-    ap (λ l. patch (8 * length gs) l (padded n (rangeTable gs))) (sym (append-nil (slotBytes (newSlot gs g))))
-    ∙ entry-more 8 slotBytes wide-row (rangeSlots 0 gs) (newSlot gs g ∷ []) (8 * length gs) n a (omega arith)
+    ap (λ l. patch (rangeSlotSize * length gs) l (padded n (rangeTable gs))) (sym (append-nil (slotBytes (newSlot gs g))))
+    ∙ entry-more rangeSlotSize slotBytes wide-row (rangeSlots 0 gs) (newSlot gs g ∷ []) (rangeSlotSize * length gs) n a (omega arith)
     ∙ ap (λ l. padded n (joined (map slotBytes l)))
     (sym (rows-snoc 0 gs g ∙ ap (λ k. rangeSlots 0 gs ++ (record { lower = g .lower; upper = g .upper; first = k; count = length (g .categories) } ∷ [])) z))
 
-pub references-more : (gs : List Range) (g : Range) (n : ℕ) → 2 * references gs + 2 * length (g .categories) ≤ n
-    → patch (2 * references gs) (joined (map (le 2) (g .categories))) (padded n (referenceTable gs)) ≡ padded n (referenceTable (gs ++ (g ∷ [])))
+pub references-more : (gs : List Range) (g : Range) (n : ℕ) → referenceSize * references gs + referenceSize * length (g .categories) ≤ n
+    → patch (referenceSize * references gs) (joined (map (le referenceSize) (g .categories))) (padded n (referenceTable gs)) ≡ padded n (referenceTable (gs ++ (g ∷ [])))
 references-more gs g n h =
     let e : length (numbersOf gs) ≡ references gs = numbers-length gs in
-    let a : 2 * references gs ≡ 2 * length (numbersOf gs) = omega arith in
-    entry-more 2 (le 2) wide-number (numbersOf gs) (g .categories) (2 * references gs) n a (omega arith)
-    ∙ ap (λ l. padded n (joined (map (le 2) l))) (sym (numbers-snoc gs g))
+    let a : referenceSize * references gs ≡ referenceSize * length (numbersOf gs) = omega arith in
+    entry-more referenceSize (le referenceSize) wide-number (numbersOf gs) (g .categories) (referenceSize * references gs) n a (omega arith)
+    ∙ ap (λ l. padded n (joined (map (le referenceSize) l))) (sym (numbers-snoc gs g))

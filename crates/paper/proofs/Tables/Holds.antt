@@ -11,32 +11,33 @@ use lib.Dec.{T}
 use lib.ListN.{drop, take-append-drop}
 use Rattle.paper.specs.CharDef.Reading.{Reading}
 use Rattle.paper.specs.Pack.Rules.{PackRules}
-use Rattle.paper.specs.Tables.Layout.{Tables, layout, countsOf, used, behind}
-use Rattle.paper.specs.Tables.HandedIn.{HoldTogether}
+use Rattle.paper.specs.Tables.Layout.{Tables, layout, countsOf, used, behind, nameSlotSize, definitionSize, rangeSlotSize, referenceSize}
+use Rattle.paper.specs.Tables.HandedIn.{HoldTogether, OfBytes}
 use Rattle.paper.specs.Computed.HandedIn.{decoded, holds, handedIn}
 use Rattle.paper.specs.declared.Counts.{Counts}
-use Rattle.paper.proofs.CharDef.Sound.{zero-one}
+use Rattle.paper.proofs.Apart.{zero-one}
 use Rattle.paper.proofs.Lists.Facts.{true→T}
-use Rattle.paper.proofs.Tables.Trip.{Bytes, tables-is, handed-in, handed-holds, handed-back}
+use Rattle.paper.proofs.Tables.Trip.{tables-is, handed-in, handed-holds, handed-back}
 
 -- what stands behind the part that counts name
 beyond : Counts → Tables → Tables
 beyond n t =
     record {
       names = drop (n .bytes) (t .names);
-      categories = drop (4 * n .categories) (t .categories);
-      definitions = drop (6 * n .definitions) (t .definitions);
-      ranges = drop (8 * n .ranges) (t .ranges);
-      references = drop (2 * n .references) (t .references);
+      categories = drop (nameSlotSize * n .categories) (t .categories);
+      definitions = drop (definitionSize * n .definitions) (t .definitions);
+      ranges = drop (rangeSlotSize * n .ranges) (t .ranges);
+      references = drop (referenceSize * n .references) (t .references);
     }
 
 used-beyond : (t : Tables) (n : Counts) → behind (used n t) (beyond n t) ≡ t
 unfolding behind used beyond
 used-beyond t n =
-    tables-is t _ _ _ _ _ (take-append-drop (n .bytes) (t .names)) (take-append-drop (4 * n .categories) (t .categories))
-    (take-append-drop (6 * n .definitions) (t .definitions)) (take-append-drop (8 * n .ranges) (t .ranges)) (take-append-drop (2 * n .references) (t .references))
+    tables-is t _ _ _ _ _ (take-append-drop (n .bytes) (t .names)) (take-append-drop (nameSlotSize * n .categories) (t .categories))
+    (take-append-drop (definitionSize * n .definitions) (t .definitions)) (take-append-drop (rangeSlotSize * n .ranges) (t .ranges)) (take-append-drop (referenceSize * n .references) (t .references))
 
-stands-handed : (t : Tables) (n : Counts) (r : Reading) → HoldTogether t n r → handedIn t n ≡ some r
+-- tables in which a reading stands are handed in as it
+pub stands-handed : (t : Tables) (n : Counts) (r : Reading) → HoldTogether t n r → handedIn t n ≡ some r
 stands-handed t n r h =
     ap₂ handedIn (sym (used-beyond t n) ∙ ap (λ l. behind l (beyond n t)) (sym (h .laid-out))) (sym (h .counted))
     ∙ handed-in r (beyond n t) (h .rules)
@@ -52,7 +53,7 @@ handed-true t n r e = go (holds t n) refl e
 -- ---- the theorems
 
 -- tables of bytes pass the test of refusal 26 exactly where a reading stands in them
-pub holds-exactly : (t : Tables) (n : Counts) → Bytes t → T (holds t n) ↔ ((r : Reading) × HoldTogether t n r)
+pub holds-exactly : (t : Tables) (n : Counts) → OfBytes t → T (holds t n) ↔ ((r : Reading) × HoldTogether t n r)
 holds-exactly t n b = (λ u. (decoded t n, handed-holds t n b u), λ (r, h). handed-true t n r (stands-handed t n r h))
 
 -- one reading at most
@@ -62,12 +63,12 @@ handed-one t n r q h k =
     cc
 
 -- and `handedIn` gives it
-pub handed-exactly : (t : Tables) (n : Counts) (r : Reading) → Bytes t → (handedIn t n ≡ some r) ↔ HoldTogether t n r
+pub handed-exactly : (t : Tables) (n : Counts) (r : Reading) → OfBytes t → (handedIn t n ≡ some r) ↔ HoldTogether t n r
 handed-exactly t n r b = (λ e. handed-back t n r b e, λ h. stands-handed t n r h)
 
 -- `layout` and `handedIn` undo one another: a reading's layout, whatever stands behind it, gives the reading back, and tables that give it are
 -- its layout as far as they are used
 pub handed-inverse : (r : Reading) → PackRules r
     → ((x : Tables) → handedIn (behind (layout r) x) (countsOf r) ≡ some r)
-    × ((t : Tables) (n : Counts) → Bytes t → handedIn t n ≡ some r → (layout r ≡ used n t) × (countsOf r ≡ n))
+    × ((t : Tables) (n : Counts) → OfBytes t → handedIn t n ≡ some r → (layout r ≡ used n t) × (countsOf r ≡ n))
 handed-inverse r k = (λ x. handed-in r x k, λ t n b e. (let h = handed-back t n r b e in (h .laid-out, h .counted)))

@@ -6,11 +6,11 @@ use native.Mathlib.Omega.{arith}
 use mathlib.Core.Path.{_≡_, refl, sym, ap, ap₂, _∙_}
 use mathlib.Core.Bool.{Bool, true, false, cond, _&&_}
 use mathlib.Core.List.{List, [], _∷_, _++_, map, append-assoc}
-use lib.Dec.{T, leb, ltb, eqb}
+use lib.Dec.{T, leb, eqb}
 use lib.ListN.{length, take, drop, getD, length-append, length-drop, take-append-drop}
 use lib.Seq.{sets, sets-eq, drop-cons, take-at, drop-at, take-add, drop-drop, take-take, length-take-le, take-nil}
-use borrow.Author.Tests.{le-leb, lt-leb, leb-true}
 use mir.Facts.{and-yes, yes-and, ltb-yes, yes-eqb}
+use borrow.Author.Tests.{le-leb, lt-leb, leb-true}
 use Rattle.paper.specs.Lists.{all, joined}
 use Rattle.paper.specs.Numbers.Bytes.{isByte, le, value}
 use Rattle.paper.specs.Tables.Layout.{pieces}

@@ -17,18 +17,17 @@ use Rattle.paper.specs.Numbers.Bytes.{le, value, isByte}
 use Rattle.paper.specs.CharDef.Reading.{Definition, Range, Reading, Within, nameBytes, references}
 use Rattle.paper.specs.Pack.Fields.{flag}
 use Rattle.paper.specs.Pack.Rules.{isBound, once, numbered, PackRules}
-use Rattle.paper.specs.Tables.HandedIn.{HoldTogether}
-use Rattle.paper.specs.Tables.Layout.{pieces, NameSlot, RangeSlot, nameSlotBytes, definitionBytes, slotBytes, nameSlotOf, definitionOf, slotOf, nameSlots, rangeSlots, split, ranging, Tables, countsOf, numbersOf, layout, used, behind}
+use Rattle.paper.specs.Pack.Rules as rule
+use Rattle.paper.specs.Tables.HandedIn.{HoldTogether, OfBytes}
+use Rattle.paper.specs.Tables.Layout.{pieces, NameSlot, RangeSlot, nameSlotBytes, definitionBytes, slotBytes, nameSlotOf, definitionOf, slotOf, nameSlots, rangeSlots, split, ranging, Tables, countsOf, numbersOf, layout, used, behind, nameSlotSize, definitionSize, rangeSlotSize, referenceSize, invokeAt, groupAt}
 use Rattle.paper.specs.Tables.Lent.{num}
 use Rattle.paper.specs.Computed.HandedIn.{enough, nameSlotsStand, slotsStand, flagged, nameSlotsIn, namesIn, slotsIn, numbersIn, decoded, holds, handedIn}
 use Rattle.paper.specs.Computed.Rules.{formed}
 use Rattle.paper.specs.declared.Counts.{Counts}
-use Rattle.paper.specs.Pack.Rules as rule
-use Rattle.paper.proofs.Lists.Facts.{all-append}
-use Rattle.paper.proofs.CharDef.Sound.{all-left, all-right}
+use Rattle.paper.proofs.Lists.Facts.{all-append, all-left, all-right, joined-length}
+use Rattle.paper.proofs.Lists.Facts.{T→true, true→T}
 use Rattle.paper.proofs.Pack.Rules.{each-all, all-each, formed-is, is-formed}
 use Rattle.paper.proofs.Pack.Trip.{bound-bits}
-use Rattle.paper.proofs.Lists.Facts.{T→true, true→T}
 use Rattle.paper.proofs.Tables.Laws.{whole, field-back, pieces-table, table-length, pieces-length, joined-pieces, pieces-whole, all-take, all-drop, short, value-small, map-back, value-le}
 
 -- the tests with their numbers written out
@@ -111,13 +110,13 @@ last-back : (v k : ℕ) (p : List ℕ) → T (all isByte p) → length p ≡ k +
 last-back v k p t e =
     sym (append-nil (le v (num v k p))) ∙ ap (λ l. le v (num v k p) ++ l) (sym (ap (λ m. drop m p) (sym e) ∙ drop-length p)) ∙ field-back v k p t (omega arith)
 
-place-back : (p : List ℕ) → T (whole 4 p) → nameSlotBytes (nameSlotOf p) ≡ p
+place-back : (p : List ℕ) → T (whole nameSlotSize p) → nameSlotBytes (nameSlotOf p) ≡ p
 place-back p t =
     let h = and-yes (eqb (length p) 4) (all isByte p) t in
     let e : length p ≡ 4 = eqb-yes (h .0) in
     ap (λ l. le 2 (num 2 0 p) ++ l) (last-back 2 2 p (h .1) e) ∙ field-back 2 0 p (h .1) (omega arith)
 
-row-back : (p : List ℕ) → T (whole 8 p) → slotBytes (slotOf p) ≡ p
+row-back : (p : List ℕ) → T (whole rangeSlotSize p) → slotBytes (slotOf p) ≡ p
 row-back p t =
     let h = and-yes (eqb (length p) 8) (all isByte p) t in
     let e : length p ≡ 8 = eqb-yes (h .0) in
@@ -127,7 +126,7 @@ row-back p t =
     ∙ field-back 2 2 p (h .1) (omega arith))
     ∙ field-back 2 0 p (h .1) (omega arith)
 
-number-back : (p : List ℕ) → T (whole 2 p) → le 2 (num 2 0 p) ≡ p
+number-back : (p : List ℕ) → T (whole referenceSize p) → le 2 (num 2 0 p) ≡ p
 number-back p t =
     let h = and-yes (eqb (length p) 2) (all isByte p) t in
     let e : length p ≡ 2 = eqb-yes (h .0) in
@@ -138,21 +137,21 @@ flag-back zero h = refl
 flag-back (suc zero) h = refl
 flag-back (suc (suc n)) h = absurd (omega arith)
 
-definition-back : (p : List ℕ) → T (whole 6 p && flagged p) → definitionBytes (definitionOf p) ≡ p
+definition-back : (p : List ℕ) → T (whole definitionSize p && flagged p) → definitionBytes (definitionOf p) ≡ p
 unfolding flagged
 definition-back p t = go p (eqb-yes (h .0)) (leb-yes (k .0)) (leb-yes (k .1)) (field-back 4 0 p (h .1) (let e : length p ≡ 6 = eqb-yes (h .0) in omega arith))
   where
-    g : T (whole 6 p) × T (flagged p)
-    g = and-yes (whole 6 p) (flagged p) t
+    g : T (whole definitionSize p) × T (flagged p)
+    g = and-yes (whole definitionSize p) (flagged p) t
 
     h : T (eqb (length p) 6) × T (all isByte p)
     h = and-yes (eqb (length p) 6) (all isByte p) (g .0)
 
-    k : T (leb (getD p 4 0) 1) × T (leb (getD p 5 0) 1)
-    k = and-yes (leb (getD p 4 0) 1) (leb (getD p 5 0) 1) (g .1)
+    k : T (leb (getD p invokeAt 0) 1) × T (leb (getD p groupAt 0) 1)
+    k = and-yes (leb (getD p invokeAt 0) 1) (leb (getD p groupAt 0) 1) (g .1)
 
-    go : (p : List ℕ) → length p ≡ 6 → getD p 4 0 ≤ 1 → getD p 5 0 ≤ 1 → le 4 (num 4 0 p) ++ drop 4 p ≡ p
-        → le 4 (num 4 0 p) ++ (flag (eqb (getD p 4 0) 1) ∷ flag (eqb (getD p 5 0) 1) ∷ []) ≡ p
+    go : (p : List ℕ) → length p ≡ 6 → getD p invokeAt 0 ≤ 1 → getD p groupAt 0 ≤ 1 → le 4 (num 4 0 p) ++ drop 4 p ≡ p
+        → le 4 (num 4 0 p) ++ (flag (eqb (getD p invokeAt 0) 1) ∷ flag (eqb (getD p groupAt 0) 1) ∷ []) ≡ p
     go (a ∷ b ∷ c ∷ d ∷ e ∷ f ∷ []) z x y q = rw (flag-back e x, flag-back f y) q
     go (a ∷ b ∷ c ∷ d ∷ e ∷ f ∷ g ∷ s) z x y q = absurd (omega arith)
     go [] z x y q = absurd (omega arith)
@@ -318,16 +317,16 @@ ranged total at (r ∷ rs) l t e =
 
 -- ---- a reading's tables, with anything behind them, are that reading
 
-pub wide-place : (p : NameSlot) → length (nameSlotBytes p) ≡ 4
+pub wide-place : (p : NameSlot) → length (nameSlotBytes p) ≡ nameSlotSize
 wide-place p = refl
 
-pub wide-definition : (d : Definition) → length (definitionBytes d) ≡ 6
+pub wide-definition : (d : Definition) → length (definitionBytes d) ≡ definitionSize
 wide-definition d = refl
 
-pub wide-row : (r : RangeSlot) → length (slotBytes r) ≡ 8
+pub wide-row : (r : RangeSlot) → length (slotBytes r) ≡ rangeSlotSize
 wide-row r = refl
 
-pub wide-number : (n : ℕ) → length (le 2 n) ≡ 2
+pub wide-number : (n : ℕ) → length (le referenceSize n) ≡ referenceSize
 wide-number n = refl
 
 -- a table and what stands behind it is long enough
@@ -346,10 +345,6 @@ all-lt k (x ∷ l) h t =
     let i = and-yes (ltb x k) (all (λ c. ltb c k) l) t in
     let j : x < k = ltb-yes (i .0) in
     yes-and (ltb x (maxU16 + 1)) (all small l) (is-lt x (maxU16 + 1) (omega arith)) (all-lt k l h (i .1))
-
-pub joined-length : (xs : List (List ℕ)) → length (joined xs) ≡ sum (map length xs)
-joined-length [] = refl
-joined-length (x ∷ xs) = length-append x (joined xs) ∙ ap (λ m. length x + m) (joined-length xs)
 
 -- the rules as the tests of tables have them
 record Kept (r : Reading) : Type 0 where
@@ -410,7 +405,7 @@ module _ (r : Reading) (x : Tables) (ok : Kept r) where
   places-in =
       let w = ok .within in
       let h : sum (map length (r .names)) ≤ maxNameBytes = w .names-fit in
-      there 4 nameSlotBytes nameSlotOf wide-place smallPlace place-there (nameSlots 0 (map length (r .names))) (length (r .names)) (x .categories)
+      there nameSlotSize nameSlotBytes nameSlotOf wide-place smallPlace place-there (nameSlots 0 (map length (r .names))) (length (r .names)) (x .categories)
       (places-length 0 (map length (r .names)) ∙ length-map (r .names) length) (places-small 0 (map length (r .names)) (omega arith))
 
   names-in : namesIn t n ≡ r .names
@@ -420,16 +415,16 @@ module _ (r : Reading) (x : Tables) (ok : Kept r) where
       ∙ ap (λ l. split l (joined (r .names) ++ x .names)) (places-lens 0 (map length (r .names)))
       ∙ split-joined (r .names) (x .names)
 
-  definitions-in : map definitionOf (pieces 6 (n .definitions) (t .definitions)) ≡ r .definitions
+  definitions-in : map definitionOf (pieces definitionSize (n .definitions) (t .definitions)) ≡ r .definitions
   unfolding t n behind layout countsOf smallDefinition
-  definitions-in = there 6 definitionBytes definitionOf wide-definition smallDefinition definition-there (r .definitions) (length (r .definitions)) (x .definitions) refl (ok .lengths)
+  definitions-in = there definitionSize definitionBytes definitionOf wide-definition smallDefinition definition-there (r .definitions) (length (r .definitions)) (x .definitions) refl (ok .lengths)
 
   rows-in : slotsIn t n ≡ rangeSlots 0 (r .ranges)
   unfolding slotsIn t n behind layout countsOf bounded
   rows-in =
       let w = ok .within in
       let h : references (r .ranges) ≤ maxReferences = w .references-fit in
-      there 8 slotBytes slotOf wide-row smallRow row-there (rangeSlots 0 (r .ranges)) (length (r .ranges)) (x .ranges)
+      there rangeSlotSize slotBytes slotOf wide-row smallRow row-there (rangeSlots 0 (r .ranges)) (length (r .ranges)) (x .ranges)
       (rows-length 0 (r .ranges)) (rows-small 0 (r .ranges) (ok .bounds) (omega arith))
 
   numbers-in : numbersIn t n ≡ numbersOf (r .ranges)
@@ -437,16 +432,16 @@ module _ (r : Reading) (x : Tables) (ok : Kept r) where
   numbers-in =
       let w = ok .within in
       let h : length (r .names) ≤ maxCategories = w .categories-fit in
-      there 2 (le 2) (num 2 0) wide-number small two (numbersOf (r .ranges)) (references (r .ranges)) (x .references)
+      there referenceSize (le referenceSize) (num referenceSize 0) wide-number small two (numbersOf (r .ranges)) (references (r .ranges)) (x .references)
       (numbers-length (r .ranges)) (all-lt (length (r .names)) (numbersOf (r .ranges)) (omega arith) (ok .known))
 
   ranges-in : ranging (slotsIn t n) (numbersIn t n) ≡ r .ranges
   ranges-in =
       ap₂ ranging rows-in (numbers-in ∙ sym (append-nil (numbersOf (r .ranges)))) ∙ ranging-rows 0 (r .ranges) []
 
-  flags-in : T (all flagged (pieces 6 (n .definitions) (t .definitions)))
+  flags-in : T (all flagged (pieces definitionSize (n .definitions) (t .definitions)))
   unfolding t n behind layout countsOf flagged
-  flags-in = subst (λ l. T (all flagged l)) (sym (pieces-table 6 definitionBytes wide-definition (r .definitions) (x .definitions))) (go (r .definitions))
+  flags-in = subst (λ l. T (all flagged l)) (sym (pieces-table definitionSize definitionBytes wide-definition (r .definitions) (x .definitions))) (go (r .definitions))
     where
       one : (b : Bool) → flag b ≤ 1
       one true = omega arith
@@ -464,10 +459,10 @@ module _ (r : Reading) (x : Tables) (ok : Kept r) where
       let b : length (joined (r .names)) ≡ sum (map length (r .names)) = joined-length (r .names) in
       both (le-leb _ _ (w .categories-fit)) (both (le-leb _ _ (w .names-fit)) (both (le-leb _ _ (w .definitions-fit)) (both (le-leb _ _ (w .ranges-fit)) (both (le-leb _ _ (w .references-fit))
       (both (le-leb (sum (map length (r .names))) (length (joined (r .names) ++ x .names)) (omega arith))
-      (both (le-leb _ _ (room 4 nameSlotBytes wide-place (nameSlots 0 (map length (r .names))) (length (r .names)) (x .categories) (places-length 0 (map length (r .names)) ∙ length-map (r .names) length)))
-      (both (le-leb _ _ (room 6 definitionBytes wide-definition (r .definitions) (length (r .definitions)) (x .definitions) refl))
-      (both (le-leb _ _ (room 8 slotBytes wide-row (rangeSlots 0 (r .ranges)) (length (r .ranges)) (x .ranges) (rows-length 0 (r .ranges))))
-      (le-leb _ _ (room 2 (le 2) wide-number (numbersOf (r .ranges)) (references (r .ranges)) (x .references) (numbers-length (r .ranges))))))))))))
+      (both (le-leb _ _ (room nameSlotSize nameSlotBytes wide-place (nameSlots 0 (map length (r .names))) (length (r .names)) (x .categories) (places-length 0 (map length (r .names)) ∙ length-map (r .names) length)))
+      (both (le-leb _ _ (room definitionSize definitionBytes wide-definition (r .definitions) (length (r .definitions)) (x .definitions) refl))
+      (both (le-leb _ _ (room rangeSlotSize slotBytes wide-row (rangeSlots 0 (r .ranges)) (length (r .ranges)) (x .ranges) (rows-length 0 (r .ranges))))
+      (le-leb _ _ (room referenceSize (le referenceSize) wide-number (numbersOf (r .ranges)) (references (r .ranges)) (x .references) (numbers-length (r .ranges))))))))))))
 
   stand : T (nameSlotsStand (n .bytes) 0 (nameSlots 0 (map length (r .names))))
   unfolding n countsOf nameBytes
@@ -486,7 +481,7 @@ module _ (r : Reading) (x : Tables) (ok : Kept r) where
   holds-in =
       both enough-in
       (both (ap (nameSlotsStand (n .bytes) 0) places-in ∙ T→true _ stand)
-      (both (T→true (all flagged (pieces 6 (n .definitions) (t .definitions))) flags-in)
+      (both (T→true (all flagged (pieces definitionSize (n .definitions) (t .definitions))) flags-in)
       (both (ap (slotsStand (n .references) 0) rows-in ∙ T→true _ stand-rows)
       (both (ap (all (λ c. ltb c (n .categories))) numbers-in ∙ T→true _ known-in)
       (both (ap (all formed) names-in ∙ T→true _ (ok .well)) (ap (once) names-in ∙ T→true _ (ok .single)))))))
@@ -498,19 +493,13 @@ handed-in r x k = let ok = keeps r k in rw (holds-in r x ok, names-in r x ok, de
 
 -- ---- tables that are handed in are the layout of their reading
 
-pub record Bytes (t : Tables) : Type 0 where
-  pub in-categories : T (all isByte (t .categories))
-  pub in-definitions : T (all isByte (t .definitions))
-  pub in-ranges : T (all isByte (t .ranges))
-  pub in-references : T (all isByte (t .references))
-
 pub record Enough (names categories definitions ranges references : ℕ) (n : Counts) : Type 0 where
   pub limits : (n .categories ≤ maxCategories) × ((n .bytes ≤ maxNameBytes) × ((n .definitions ≤ maxCategoryLines) × ((n .ranges ≤ maxRanges) × (n .references ≤ maxReferences))))
   pub for-names : n .bytes ≤ names
-  pub for-categories : 4 * n .categories ≤ categories
-  pub for-definitions : 6 * n .definitions ≤ definitions
-  pub for-ranges : 8 * n .ranges ≤ ranges
-  pub for-references : 2 * n .references ≤ references
+  pub for-categories : nameSlotSize * n .categories ≤ categories
+  pub for-definitions : definitionSize * n .definitions ≤ definitions
+  pub for-ranges : rangeSlotSize * n .ranges ≤ ranges
+  pub for-references : referenceSize * n .references ≤ references
 
 pub says : (a b c d e : ℕ) (n : Counts) → T (enough a b c d e n) → Enough a b c d e n
 unfolding enough
@@ -521,9 +510,9 @@ says a b c d e n t =
     let t4 = and-yes (leb (n .ranges) maxRanges) _ (t3 .1) in
     let t5 = and-yes (leb (n .references) maxReferences) _ (t4 .1) in
     let t6 = and-yes (leb (n .bytes) a) _ (t5 .1) in
-    let t7 = and-yes (leb (4 * n .categories) b) _ (t6 .1) in
-    let t8 = and-yes (leb (6 * n .definitions) c) _ (t7 .1) in
-    let t9 = and-yes (leb (8 * n .ranges) d) (leb (2 * n .references) e) (t8 .1) in
+    let t7 = and-yes (leb (nameSlotSize * n .categories) b) _ (t6 .1) in
+    let t8 = and-yes (leb (definitionSize * n .definitions) c) _ (t7 .1) in
+    let t9 = and-yes (leb (rangeSlotSize * n .ranges) d) (leb (referenceSize * n .references) e) (t8 .1) in
     record {
       limits = (leb-yes (t1 .0), (leb-yes (t2 .0), (leb-yes (t3 .0), (leb-yes (t4 .0), leb-yes (t5 .0)))));
       for-names = leb-yes (t6 .0);
@@ -536,7 +525,7 @@ says a b c d e n t =
 record Parts (t : Tables) (n : Counts) : Type 0 where
   long : Enough (length (t .names)) (length (t .categories)) (length (t .definitions)) (length (t .ranges)) (length (t .references)) n
   placed : T (nameSlotsStand (n .bytes) 0 (nameSlotsIn t n))
-  flags : T (all flagged (pieces 6 (n .definitions) (t .definitions)))
+  flags : T (all flagged (pieces definitionSize (n .definitions) (t .definitions)))
   rowed : T (slotsStand (n .references) 0 (slotsIn t n))
   known : T (all (λ c. ltb c (n .categories)) (numbersIn t n))
   well : T (all formed (namesIn t n))
@@ -547,7 +536,7 @@ unfolding holds
 parts t n h =
     let h1 = and-yes (enough (length (t .names)) (length (t .categories)) (length (t .definitions)) (length (t .ranges)) (length (t .references)) n) _ h in
     let h2 = and-yes (nameSlotsStand (n .bytes) 0 (nameSlotsIn t n)) _ (h1 .1) in
-    let h3 = and-yes (all flagged (pieces 6 (n .definitions) (t .definitions))) _ (h2 .1) in
+    let h3 = and-yes (all flagged (pieces definitionSize (n .definitions) (t .definitions))) _ (h2 .1) in
     let h4 = and-yes (slotsStand (n .references) 0 (slotsIn t n)) _ (h3 .1) in
     let h5 = and-yes (all (λ c. ltb c (n .categories)) (numbersIn t n)) _ (h4 .1) in
     let h6 = and-yes (all formed (namesIn t n)) (once (namesIn t n)) (h5 .1) in
@@ -574,7 +563,7 @@ counts-is n a b c d e f g h i j = rw (f, g, h, i, j)
 
 count-numbers : (t : Tables) (n : Counts) → length (numbersIn t n) ≡ n .references
 unfolding numbersIn
-count-numbers t n = length-map (pieces 2 (n .references) (t .references)) (num 2 0) ∙ pieces-length 2 (n .references) (t .references)
+count-numbers t n = length-map (pieces referenceSize (n .references) (t .references)) (num referenceSize 0) ∙ pieces-length referenceSize (n .references) (t .references)
 
 count-names : (r : Reading) (n : Counts) → countsOf r ≡ n → length (r .names) ≡ n .categories
 unfolding countsOf
@@ -595,7 +584,7 @@ as-bounded : (gs : List Range) → T (all bounded gs) → T (all (λ g. isBound 
 unfolding bounded
 as-bounded gs t = t
 
-lengths-small : (n : ℕ) (l : List ℕ) → T (all isByte l) → T (all (λ d. ltb (d .len) (maxU32 + 1)) (map definitionOf (pieces 6 n l)))
+lengths-small : (n : ℕ) (l : List ℕ) → T (all isByte l) → T (all (λ d. ltb (d .len) (maxU32 + 1)) (map definitionOf (pieces definitionSize n l)))
 unfolding pieces num
 lengths-small zero l t = tt
 lengths-small (suc n) l t =
@@ -603,7 +592,7 @@ lengths-small (suc n) l t =
     (is-lt (value (take 4 (take 6 l))) (maxU32 + 1) (value-small 4 (take 4 (take 6 l)) (all-take isByte 4 (take 6 l) (all-take isByte 6 l t)) (short 4 (take 6 l))))
     (lengths-small n (drop 6 l) (all-drop isByte 6 l t))
 
-module _ (t : Tables) (n : Counts) (b : Bytes t) (h : Parts t n) where
+module _ (t : Tables) (n : Counts) (b : OfBytes t) (h : Parts t n) where
   names-lens : map length (namesIn t n) ≡ map (λ p. p .len) (nameSlotsIn t n)
   unfolding namesIn
   names-lens =
@@ -620,43 +609,43 @@ module _ (t : Tables) (n : Counts) (b : Bytes t) (h : Parts t n) where
       let e : sum (map (λ p. p .len) (nameSlotsIn t n)) ≡ n .bytes = omega arith in
       joined-split (map (λ p. p .len) (nameSlotsIn t n)) (t .names) ∙ ap (λ m. take m (t .names)) e
 
-  used-categories : joined (map nameSlotBytes (nameSlots 0 (map length (namesIn t n)))) ≡ take (4 * n .categories) (t .categories)
+  used-categories : joined (map nameSlotBytes (nameSlots 0 (map length (namesIn t n)))) ≡ take (nameSlotSize * n .categories) (t .categories)
   unfolding nameSlotsIn
   used-categories =
       ap (λ l. joined (map nameSlotBytes (nameSlots 0 l))) names-lens
       ∙ ap (λ l. joined (map nameSlotBytes l)) (standing (n .bytes) 0 (nameSlotsIn t n) (h .placed) .again-places)
       ∙ go
     where
-      go : joined (map nameSlotBytes (nameSlotsIn t n)) ≡ take (4 * n .categories) (t .categories)
-      go = again 4 nameSlotBytes nameSlotOf (whole 4) place-back (n .categories) (t .categories)
-          (pieces-whole 4 (n .categories) (t .categories) (b .in-categories) (h .long .for-categories))
+      go : joined (map nameSlotBytes (nameSlotsIn t n)) ≡ take (nameSlotSize * n .categories) (t .categories)
+      go = again nameSlotSize nameSlotBytes nameSlotOf (whole nameSlotSize) place-back (n .categories) (t .categories)
+          (pieces-whole nameSlotSize (n .categories) (t .categories) (b .in-categories) (h .long .for-categories))
 
-  used-definitions : joined (map definitionBytes (map definitionOf (pieces 6 (n .definitions) (t .definitions)))) ≡ take (6 * n .definitions) (t .definitions)
+  used-definitions : joined (map definitionBytes (map definitionOf (pieces definitionSize (n .definitions) (t .definitions)))) ≡ take (definitionSize * n .definitions) (t .definitions)
   used-definitions =
-      again 6 definitionBytes definitionOf (λ p. whole 6 p && flagged p) definition-back (n .definitions) (t .definitions)
-      (all-both (whole 6) flagged (pieces 6 (n .definitions) (t .definitions))
-      (pieces-whole 6 (n .definitions) (t .definitions) (b .in-definitions) (h .long .for-definitions)) (h .flags))
+      again definitionSize definitionBytes definitionOf (λ p. whole definitionSize p && flagged p) definition-back (n .definitions) (t .definitions)
+      (all-both (whole definitionSize) flagged (pieces definitionSize (n .definitions) (t .definitions))
+      (pieces-whole definitionSize (n .definitions) (t .definitions) (b .in-definitions) (h .long .for-definitions)) (h .flags))
 
   ranges-are : Ranged 0 (slotsIn t n) (numbersIn t n)
   unfolding numbersIn
   ranges-are =
-      let e : length (map (num 2 0) (pieces 2 (n .references) (t .references))) ≡ n .references =
-      length-map (pieces 2 (n .references) (t .references)) (num 2 0) ∙ pieces-length 2 (n .references) (t .references) in
+      let e : length (map (num referenceSize 0) (pieces referenceSize (n .references) (t .references))) ≡ n .references =
+      length-map (pieces referenceSize (n .references) (t .references)) (num referenceSize 0) ∙ pieces-length referenceSize (n .references) (t .references) in
       ranged (n .references) 0 (slotsIn t n) (numbersIn t n) (h .rowed) (omega arith)
 
-  used-ranges : joined (map slotBytes (rangeSlots 0 (ranging (slotsIn t n) (numbersIn t n)))) ≡ take (8 * n .ranges) (t .ranges)
+  used-ranges : joined (map slotBytes (rangeSlots 0 (ranging (slotsIn t n) (numbersIn t n)))) ≡ take (rangeSlotSize * n .ranges) (t .ranges)
   unfolding slotsIn
   used-ranges =
       ap (λ l. joined (map slotBytes l)) (ranges-are .again-rows)
-      ∙ again 8 slotBytes slotOf (whole 8) row-back (n .ranges) (t .ranges)
-      (pieces-whole 8 (n .ranges) (t .ranges) (b .in-ranges) (h .long .for-ranges))
+      ∙ again rangeSlotSize slotBytes slotOf (whole rangeSlotSize) row-back (n .ranges) (t .ranges)
+      (pieces-whole rangeSlotSize (n .ranges) (t .ranges) (b .in-ranges) (h .long .for-ranges))
 
-  used-references : joined (map (le 2) (numbersOf (ranging (slotsIn t n) (numbersIn t n)))) ≡ take (2 * n .references) (t .references)
+  used-references : joined (map (le referenceSize) (numbersOf (ranging (slotsIn t n) (numbersIn t n)))) ≡ take (referenceSize * n .references) (t .references)
   unfolding numbersIn
   used-references =
-      ap (λ l. joined (map (le 2) l)) (ranges-are .again-numbers)
-      ∙ again 2 (le 2) (num 2 0) (whole 2) number-back (n .references) (t .references)
-      (pieces-whole 2 (n .references) (t .references) (b .in-references) (h .long .for-references))
+      ap (λ l. joined (map (le referenceSize) l)) (ranges-are .again-numbers)
+      ∙ again referenceSize (le referenceSize) (num referenceSize 0) (whole referenceSize) number-back (n .references) (t .references)
+      (pieces-whole referenceSize (n .references) (t .references) (b .in-references) (h .long .for-references))
 
   -- the counts are the reading's
   counts-are : countsOf (decoded t n) ≡ n
@@ -668,13 +657,13 @@ module _ (t : Tables) (n : Counts) (b : Bytes t) (h : Parts t n) where
       let many : length (map length (namesIn t n)) ≡ length (map (λ p. p .len) (nameSlotsIn t n)) = ap length names-lens in
       let e1 = length-map (namesIn t n) length in
       let e2 = length-map (nameSlotsIn t n) (λ p. p .len) in
-      let e3 = length-map (pieces 4 (n .categories) (t .categories)) nameSlotOf in
-      let e4 = pieces-length 4 (n .categories) (t .categories) in
-      let f1 = length-map (pieces 6 (n .definitions) (t .definitions)) definitionOf in
-      let f2 = pieces-length 6 (n .definitions) (t .definitions) in
+      let e3 = length-map (pieces nameSlotSize (n .categories) (t .categories)) nameSlotOf in
+      let e4 = pieces-length nameSlotSize (n .categories) (t .categories) in
+      let f1 = length-map (pieces definitionSize (n .definitions) (t .definitions)) definitionOf in
+      let f2 = pieces-length definitionSize (n .definitions) (t .definitions) in
       let g1 = ranges-are .as-many in
-      let g2 = length-map (pieces 8 (n .ranges) (t .ranges)) slotOf in
-      let g3 = pieces-length 8 (n .ranges) (t .ranges) in
+      let g2 = length-map (pieces rangeSlotSize (n .ranges) (t .ranges)) slotOf in
+      let g3 = pieces-length rangeSlotSize (n .ranges) (t .ranges) in
       counts-is n _ _ _ _ _ (omega arith) (f1 ∙ f2) (g1 ∙ g2 ∙ g3) references-are (omega arith)
     where
       references-are : references (ranging (slotsIn t n) (numbersIn t n)) ≡ n .references
@@ -714,18 +703,18 @@ pub tables-is : (t : Tables) (a b c d e : List ℕ) → a ≡ t .names → b ≡
     → _≡_ {A = Tables} (record { names = a; categories = b; definitions = c; ranges = d; references = e }) t
 tables-is t a b c d e f g h i j = rw (f, g, h, i, j)
 
-laid : (t : Tables) (n : Counts) → Bytes t → Parts t n → layout (decoded t n) ≡ used n t
+laid : (t : Tables) (n : Counts) → OfBytes t → Parts t n → layout (decoded t n) ≡ used n t
 unfolding layout decoded used
 laid t n b h =
     tables-is (used n t) _ _ _ _ _ (used-names t n b h) (used-categories t n b h) (used-definitions t n b h) (used-ranges t n b h) (used-references t n b h)
 
 -- what is handed in
-pub handed-holds : (t : Tables) (n : Counts) → Bytes t → T (holds t n) → HoldTogether t n (decoded t n)
+pub handed-holds : (t : Tables) (n : Counts) → OfBytes t → T (holds t n) → HoldTogether t n (decoded t n)
 handed-holds t n b u =
     let h = parts t n u in
     record { laid-out = laid t n b h; counted = counts-are t n b h; rules = kept (decoded t n) (rules-kept t n b h) }
 
-pub handed-back : (t : Tables) (n : Counts) (r : Reading) → Bytes t → handedIn t n ≡ some r → HoldTogether t n r
+pub handed-back : (t : Tables) (n : Counts) (r : Reading) → OfBytes t → handedIn t n ≡ some r → HoldTogether t n r
 unfolding handedIn
 handed-back t n r b e = go (holds t n) refl e
   where

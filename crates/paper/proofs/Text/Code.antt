@@ -13,8 +13,9 @@ use lib.Seq.{take-length}
 use Rattle.paper.specs.Lists.{all}
 use Rattle.paper.specs.Text.Scalar.{isScalar, utf8, WellFormed}
 use Rattle.paper.specs.Computed.Decode.{Text, broken, chars, decode}
+use Rattle.paper.proofs.Apart.{broken-chars}
 use Rattle.paper.proofs.Text.Prefix.{prefix-longest, broken-inside, chars-formed}
-pub use Rattle.paper.proofs.Text.Lengths.{bad-good, broken-chars, enc-1, enc-2, enc-3, enc-4, dec-1, dec-2, dec-3, dec-4}
+pub use Rattle.paper.proofs.Text.Lengths.{enc-1, enc-2, enc-3, enc-4, dec-1, dec-2, dec-3, dec-4}
 pub use Rattle.paper.proofs.Text.Undo.{decode-complete}
 pub use Rattle.paper.proofs.Text.Taken.{Undone, first-taken, decode-sound}
 
@@ -38,6 +39,10 @@ reads s = (λ w. go w (decode s) refl, λ (cs, e). chars-formed s 0 0 cs e)
 pub well-formed : (s : List ℕ) → WellFormed s ↔ ((cs : List ℕ) × (s ≡ utf8 cs) × T (all isScalar cs))
 well-formed s =
     (λ w. let (cs, e) = reads s .0 w in let (i, a) = decodes s cs .0 e in (cs, i, a), λ (cs, i, a). reads s .1 (cs, decodes s cs .1 (i, a)))
+
+-- what the decoder breaks off at is not well-formed
+pub ill-read : (s : List ℕ) (p : ℕ) → decode s ≡ broken p → WellFormed s → ⊥
+ill-read s p e w = let (cs, i) = reads s .0 w in broken-chars (sym e ∙ i)
 
 -- no two texts of scalar values have the same bytes
 pub utf8-one : (cs ds : List ℕ) → T (all isScalar cs) → T (all isScalar ds) → utf8 cs ≡ utf8 ds → cs ≡ ds

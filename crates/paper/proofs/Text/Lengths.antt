@@ -8,16 +8,9 @@ use mathlib.Core.List.{List, [], _∷_}
 use lib.Dec.{eqb}
 use borrow.Author.Tests.{eqb-true, le-leb, lt-leb}
 use Rattle.paper.specs.Text.Scalar.{between, utf8Of}
-use Rattle.paper.specs.Computed.Decode.{bad, good, lowest, highest, isTail, first, broken, chars}
+use Rattle.paper.specs.Computed.Decode.{good, lowest, highest, isTail, first}
 use Rattle.paper.proofs.Lists.Facts.{T→true}
-use Rattle.paper.proofs.CharDef.Sound.{zero-one}
 use Rattle.paper.proofs.Text.Scalar.{yes-between}
-
-pub bad-good {ℓ} : {X : Type ℓ} {c n : ℕ} → bad ≡ good c n → X
-bad-good e = zero-one (cc)
-
-pub broken-chars {ℓ} : {X : Type ℓ} {n : ℕ} {cs : List ℕ} → broken n ≡ chars cs → X
-broken-chars e = zero-one (cc)
 
 -- ---- a character's octets
 

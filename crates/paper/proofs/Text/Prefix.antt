@@ -11,25 +11,21 @@ use mathlib.Core.List.{List, [], _∷_, _++_}
 use lib.ListN.{length, take, drop, take-append-drop, length-take}
 use lib.Seq.{drop-nil, take-take, take-all, take-length}
 use Rattle.paper.specs.Text.Scalar.{WellFormed, nothing, LongestPrefix}
-use Rattle.paper.specs.Computed.Decode.{First, bad, good, first, Text, broken, chars, consText, onward, decodeFrom, decode}
-use Rattle.paper.proofs.CharDef.Sound.{zero-one}
-use Rattle.paper.proofs.Text.Lengths.{broken-chars}
+use Rattle.paper.specs.Computed.Decode.{First, bad, good, first, Text, broken, chars, consText, onward, decodeFrom, decode, prefixOf}
+use Rattle.paper.proofs.Apart.{broken-chars}
 pub use Rattle.paper.proofs.Text.Shapes.{Starts, started, Shaped, first-shapes}
 
 -- ---- the place of a refusal
 
-pub chars-broken {ℓ} : {X : Type ℓ} {n : ℕ} {cs : List ℕ} → chars cs ≡ broken n → X
-chars-broken e = zero-one (cc)
-
 pub unbroken : (c : ℕ) (o : Text) (p : ℕ) → consText c o ≡ broken p → o ≡ broken p
 unbroken c (broken q) p h = h
-unbroken c (chars cs) p h = chars-broken h
+unbroken c (chars cs) p h = broken-chars (sym h)
 
 -- what stands before the place is well-formed
 pub prefix-fits : (s : List ℕ) (at skip p : ℕ) → decodeFrom at skip s ≡ broken p
     → (n : ℕ) × (p ≡ at + n) × (skip ≤ n) × (n ≤ length s) × WellFormed (drop skip (take n s))
 unfolding decodeFrom
-prefix-fits [] at skip p h = chars-broken h
+prefix-fits [] at skip p h = broken-chars (sym h)
 prefix-fits (a ∷ s) at (suc skip) p h =
     let (n, e, k, l, w) = prefix-fits s (suc at) skip p h in
     (suc n, omega arith, suc-le-suc k, suc-le-suc l, w)
@@ -54,7 +50,7 @@ at-most s at skip p h = let (n, e, k, l, w) = prefix-fits s at skip p h in omega
 pub prefix-longest : (s : List ℕ) (at skip p : ℕ) → decodeFrom at skip s ≡ broken p
     → (n : ℕ) → skip ≤ n → n ≤ length s → WellFormed (drop skip (take n s)) → at + n ≤ p
 unfolding decodeFrom
-prefix-longest [] at skip p h n k l w = chars-broken h
+prefix-longest [] at skip p h n k l w = broken-chars (sym h)
 prefix-longest (a ∷ s) at (suc skip) p h zero k l w = absurd (not-suc-le-zero k)
 prefix-longest (a ∷ s) at (suc skip) p h (suc n) k l w =
     let r = prefix-longest s (suc at) skip p h n (le-of-suc-le-suc k) (le-of-suc-le-suc l) w in
@@ -92,7 +88,7 @@ chars-formed (a ∷ s) at zero cs h = go (first a s) refl h (λ extra ds. chars-
 -- the place lies inside
 pub broken-inside : (s : List ℕ) (at skip p : ℕ) → decodeFrom at skip s ≡ broken p → p < at + length s
 unfolding decodeFrom
-broken-inside [] at skip p h = chars-broken h
+broken-inside [] at skip p h = broken-chars (sym h)
 broken-inside (a ∷ s) at (suc skip) p h = let k = broken-inside s (suc at) skip p h in omega arith
 broken-inside (a ∷ s) at zero p h = go (first a s) h (λ extra. broken-inside s (suc at) extra p)
   where
@@ -102,11 +98,6 @@ broken-inside (a ∷ s) at zero p h = go (first a s) h (λ extra. broken-inside 
     go (good c extra) h ih = let k = ih extra (unbroken c (decodeFrom (suc at) extra s) p h) in omega arith
 
 -- ---- the longest well-formed prefix
-
--- the length of the longest well-formed prefix, by the decoder
-abbrev pub prefixOf : Text → ℕ → ℕ
-prefixOf (broken p) n = p
-prefixOf (chars cs) n = n
 
 module _ (s : List ℕ) (r : ℕ) (inside : r ≤ length s) (formed : WellFormed (take r s))
     (longest : (k : ℕ) → r < k → k ≤ length s → WellFormed (take k s) → ⊥) where
@@ -148,6 +139,9 @@ longest-prefix s p =
   where
     never : (k : ℕ) → p < k → k ≤ p → ⊥
     never k h i = omega arith
+
+pub prefix-of : (s : List ℕ) (p : ℕ) → decode s ≡ broken p → LongestPrefix p s
+prefix-of s p e = decoded-prefix s (broken p) e
 
 pub longest-one : (s : List ℕ) (p q : ℕ) → LongestPrefix p s → LongestPrefix q s → p ≡ q
 longest-one s p q a b = longest-prefix s p .0 a ∙ sym (longest-prefix s q .0 b)

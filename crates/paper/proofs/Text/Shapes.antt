@@ -12,8 +12,9 @@ use mir.Facts.{and-yes, leb-yes}
 use borrow.Author.Tests.{leb-true, leb-false}
 use Rattle.paper.specs.Text.Scalar.{between, In, Tail, WellFormed, nothing, utf8-1, utf8-2, utf8-3-E0, utf8-3-E1, utf8-3-ED, utf8-3-EE, utf8-4-F0, utf8-4-F1, utf8-4-F4}
 use Rattle.paper.specs.Computed.Decode.{First, bad, good, lowest, highest, isTail, two, three, four, first}
+use Rattle.paper.proofs.Apart.{bad-good}
 use Rattle.paper.proofs.Lists.Facts.{true→T}
-use Rattle.paper.proofs.Text.Lengths.{low-ok, high-ok, dec-1, dec-2, dec-3, dec-4, bad-good, low-80, high-BF, low-E0, low-F0, high-ED, high-F4}
+use Rattle.paper.proofs.Text.Lengths.{low-ok, high-ok, dec-1, dec-2, dec-3, dec-4, low-80, high-BF, low-E0, low-F0, high-ED, high-F4}
 
 -- the first character of a well-formed text, whatever follows, and the rest
 pub record Starts (a : ℕ) (s : List ℕ) : Type 0 where

@@ -12,11 +12,12 @@ use lib.Seq.{drop-nil}
 use mir.Facts.{and-yes, yes-and, leb-yes}
 use borrow.Author.Tests.{leb-true, leb-false}
 use Rattle.paper.specs.Lists.{all}
-use Rattle.paper.specs.Text.Scalar.{between, isScalar, utf8Of, utf8}
+use Rattle.paper.specs.Text.Scalar.{between, isScalar, utf8Of, utf8, lastScalar}
 use Rattle.paper.specs.Computed.Decode.{First, bad, good, lowest, highest, isTail, two, three, four, first, Text, broken, chars, consText, onward, decodeFrom}
+use Rattle.paper.proofs.Apart.{bad-good, broken-chars}
 use Rattle.paper.proofs.Lists.Facts.{true→T}
 use Rattle.paper.proofs.Text.Scalar.{scalar-low, scalar-high}
-use Rattle.paper.proofs.Text.Lengths.{bad-good, broken-chars, enc-1, enc-2, enc-3, enc-4, low-80, high-BF, low-E0, low-F0, high-ED, high-F4}
+use Rattle.paper.proofs.Text.Lengths.{enc-1, enc-2, enc-3, enc-4, low-80, high-BF, low-E0, low-F0, high-ED, high-F4}
 
 -- a byte by what it carries
 tail-is : (b : ℕ) → 0x80 ≤ b → b ≤ 0xBF → 0x80 + b % 64 ≡ b
@@ -95,7 +96,7 @@ low-4 a b y z l h low bh =
       | no n ↦ (let m : 1 ≤ a % 8 = omega arith in omega arith)
     ]
 
-high-4 : (a b y z : ℕ) → 0xF0 ≤ a → a ≤ 0xF4 → 0x80 ≤ b → b ≤ highest a → y < 64 → z < 64 → ((a % 8 * 64 + b % 64) * 64 + y) * 64 + z ≤ 0x10FFFF
+high-4 : (a b y z : ℕ) → 0xF0 ≤ a → a ≤ 0xF4 → 0x80 ≤ b → b ≤ highest a → y < 64 → z < 64 → ((a % 8 * 64 + b % 64) * 64 + y) * 64 + z ≤ lastScalar
 high-4 a b y z l h bl high yl zl =
     elim (ℕ-discrete a 0xF4) [
       | yes e ↦ (let k : b ≤ 0x8F = high-F4 b (rw e at high) in let m : b % 64 ≤ 15 = omega arith in let q : a % 8 ≤ 4 = omega arith in omega arith)
@@ -177,7 +178,7 @@ four-taken a (b ∷ d ∷ f ∷ s) l h = go (between (lowest a) (highest a) b &&
         let sd : t / 64 ≡ a % 8 = shift-div (a % 8) (b % 64) (mod-lt b) in
         let sm : t % 64 ≡ b % 64 = shift-mod (a % 8) (b % 64) (mod-lt b) in
         let vl : 0x10000 ≤ v = low-4 a b (d % 64) (f % 64) l h low bh in
-        let vh : v ≤ 0x10FFFF = high-4 a b (d % 64) (f % 64) l h bl high (mod-lt d) (mod-lt f) in
+        let vh : v ≤ lastScalar = high-4 a b (d % 64) (f % 64) l h bl high (mod-lt d) (mod-lt f) in
         taken a (b ∷ d ∷ f ∷ s) v 3 (scalar-high v (omega-le vl) vh)
         (rw (enc-4 v vl, div-3 v, div-2 v, vd, vm, ud, um, sd, sm, la, tail-is b bl bh, tail-is d (leb-yes (td .0)) (leb-yes (td .1)), tail-is f (leb-yes (te .0)) (leb-yes (te .1))))
 

@@ -10,7 +10,7 @@ use lib.Dec.{T, leb}
 use mir.Facts.{and-yes}
 use borrow.Author.Tests.{leb-true, leb-false}
 use Rattle.paper.specs.Lists.{all}
-use Rattle.paper.specs.Text.Scalar.{isScalar, utf8Of, utf8}
+use Rattle.paper.specs.Text.Scalar.{isScalar, utf8Of, utf8, lastScalar}
 use Rattle.paper.specs.Computed.Decode.{good, first, chars, consText, decodeFrom}
 use Rattle.paper.proofs.Text.Scalar.{scalar-cases, scalar-top}
 use Rattle.paper.proofs.Text.Lengths.{enc-1, enc-2, enc-3, enc-4, low-ok, high-ok, dec-1, dec-2, dec-3, dec-4}
@@ -36,10 +36,10 @@ step-2 c = omega arith
 step-3 : (c : ℕ) → c / 262144 * 64 + c / 4096 % 64 ≡ c / 4096
 step-3 c = omega arith
 
-top-small : (c : ℕ) → c ≤ 0x10FFFF → c / 262144 ≤ 4
+top-small : (c : ℕ) → c ≤ lastScalar → c / 262144 ≤ 4
 top-small c h = omega arith
 
-val-4 : (c : ℕ) → c ≤ 0x10FFFF
+val-4 : (c : ℕ) → c ≤ lastScalar
     → (((0xF0 + c / 262144) % 8 * 64 + (0x80 + c / 4096 % 64) % 64) * 64 + (0x80 + c / 64 % 64) % 64) * 64 + (0x80 + c % 64) % 64 ≡ c
 val-4 c h =
     rw (lead-val (c / 262144) (top-small c h), tail-val (c / 4096), tail-val (c / 64), tail-val c, step-3 c, step-2 c, step-1 c)
@@ -48,7 +48,7 @@ val-4 c h =
 scalar-ed : (c : ℕ) → T (isScalar c) → 0xE0 + c / 4096 ≡ 0xED → 0x80 + c / 64 % 64 ≤ 0x9F
 scalar-ed c t e = go (scalar-cases c t)
   where
-    go : (c ≤ 0xD7FF) ⊎ ((0xE000 ≤ c) × (c ≤ 0x10FFFF)) → 0x80 + c / 64 % 64 ≤ 0x9F
+    go : (c ≤ 0xD7FF) ⊎ ((0xE000 ≤ c) × (c ≤ lastScalar)) → 0x80 + c / 64 % 64 ≤ 0x9F
     go (inl a) = omega arith
     go (inr (a, b)) = omega arith
 
@@ -63,7 +63,7 @@ one-3 c s t l h =
     (omega arith) (omega arith)
     ∙ ap (λ v. good v 2) (val-3 c h)
 
-one-4 : (c : ℕ) (s : List ℕ) → 0x10000 ≤ c → c ≤ 0x10FFFF
+one-4 : (c : ℕ) (s : List ℕ) → 0x10000 ≤ c → c ≤ lastScalar
     → first (0xF0 + c / 262144) ((0x80 + c / 4096 % 64) ∷ (0x80 + c / 64 % 64) ∷ (0x80 + c % 64) ∷ s) ≡ good c 3
 one-4 c s l h =
     let b : ℕ = 0x80 + c / 4096 % 64 in

@@ -15,13 +15,14 @@ use Rattle.paper.specs.Sizes.{maxUnkEntries, maxU32, maxI32, lowI32}
 use Rattle.paper.specs.Refusals.{unkFields, unkNumber, unkEntriesFull}
 use Rattle.paper.specs.Lists.{empty, all, cut, is, without, joinWith}
 use Rattle.paper.specs.Text.Scalar.{comma}
-use Rattle.paper.specs.Numbers.Numeral.{Integer, decimal}
+use Rattle.paper.specs.Numbers.Numeral.{Integer, decimal, NoU32, NoI32}
 use Rattle.paper.specs.Unk.Entry.{Entry, UnkLine}
-use Rattle.paper.specs.Unk.Bad.{UnderFour, Unreadable, NoU32, NoI32, BadUnkLine, fields-short, number-unreadable, entries-full}
+use Rattle.paper.specs.Unk.Bad.{UnderFour, Unreadable, BadUnkLine, fields-short, number-unreadable, entries-full}
 use Rattle.paper.specs.Computed.Numeral.{numeral, signedNumeral}
 use Rattle.paper.specs.Computed.ReadUnk.{UnkFound, entry, no-entry, fromUnkNumbers, fromFields, unkLineOf, Entries, entries-are, stops, consEntry, orFull, enterUnk, readEntries}
-use Rattle.paper.proofs.CharDef.Sound.{zero-one, cut-pieces}
-use Rattle.paper.proofs.CharDef.Complete.{le10}
+use Rattle.paper.proofs.Apart.{stops-entries}
+use Rattle.paper.proofs.Lists.Pieces.{cut-pieces}
+use Rattle.paper.proofs.Numbers.Read.{decimal-small}
 use Rattle.paper.proofs.Numbers.Laws.{unsigned-none, signed-none}
 use Rattle.paper.proofs.Unk.Lines.{cut-joinWith, pieces-joinWith}
 use Rattle.paper.proofs.Unk.Line.{no-entry-entry, unk-line}
@@ -43,9 +44,9 @@ numbers-bad cs a b c d ds before n w p x ex y ey z ez h = go x ex y ey z ez h
 
     go : (x : Option ℕ) → numeral decimal maxU32 b ≡ x → (y : Option ℕ) → numeral decimal maxU32 c ≡ y
         → (z : Option Integer) → signedNumeral decimal maxI32 lowI32 d ≡ z → fromUnkNumbers a x y z ds ≡ no-entry n → BadUnkLine before cs n
-    go none ex y ey z ez h = bad (inl (unsigned-none decimal maxU32 le10 b .0 ex)) h
-    go (some l) ex none ey z ez h = bad (inr (inl (unsigned-none decimal maxU32 le10 c .0 ey))) h
-    go (some l) ex (some r) ey none ez h = bad (inr (inr (signed-none decimal maxI32 lowI32 le10 d .0 ez))) h
+    go none ex y ey z ez h = bad (inl (unsigned-none decimal maxU32 decimal-small b .0 ex)) h
+    go (some l) ex none ey z ez h = bad (inr (inl (unsigned-none decimal maxU32 decimal-small c .0 ey))) h
+    go (some l) ex (some r) ey none ez h = bad (inr (inr (signed-none decimal maxI32 lowI32 decimal-small d .0 ez))) h
     go (some l) ex (some r) ey (some i) ez h = no-entry-entry (sym h)
 
 no-entry-bad : (cs : List ℕ) (before n : ℕ) → unkLineOf cs ≡ no-entry n → BadUnkLine before cs n
@@ -108,9 +109,9 @@ unreadable-read cs u =
     z = signedNumeral decimal maxI32 lowI32 (u .cost)
 
     go : NoU32 (u .left) ⊎ (NoU32 (u .right) ⊎ NoI32 (u .cost)) → fromUnkNumbers (u .category) x y z (u .more) ≡ no-entry unkNumber
-    go (inl never) = ap (λ o. fromUnkNumbers (u .category) o y z (u .more)) (unsigned-none decimal maxU32 le10 (u .left) .1 never) ∙ left-none y z
-    go (inr (inl never)) = ap (λ o. fromUnkNumbers (u .category) x o z (u .more)) (unsigned-none decimal maxU32 le10 (u .right) .1 never) ∙ right-none x z
-    go (inr (inr never)) = ap (λ o. fromUnkNumbers (u .category) x y o (u .more)) (signed-none decimal maxI32 lowI32 le10 (u .cost) .1 never) ∙ cost-none x y
+    go (inl never) = ap (λ o. fromUnkNumbers (u .category) o y z (u .more)) (unsigned-none decimal maxU32 decimal-small (u .left) .1 never) ∙ left-none y z
+    go (inr (inl never)) = ap (λ o. fromUnkNumbers (u .category) x o z (u .more)) (unsigned-none decimal maxU32 decimal-small (u .right) .1 never) ∙ right-none x z
+    go (inr (inr never)) = ap (λ o. fromUnkNumbers (u .category) x y o (u .more)) (signed-none decimal maxI32 lowI32 decimal-small (u .cost) .1 never) ∙ cost-none x y
 
 -- ---- a line behind others
 
@@ -131,9 +132,6 @@ unk-bad-line-one a b = sym (bad-given a) ∙ bad-given b
 pub stops-same : {m n j k : ℕ} → stops m j ≡ stops n k → (m ≡ n) × (j ≡ k)
 stops-same h = (cc, cc)
 
-pub entries-stops {ℓ} : {X : Type ℓ} {n k : ℕ} {es : List Entry} → entries-are es ≡ stops n k → X
-entries-stops h = zero-one (cc)
-
 -- a bad line stops the reader, whatever stands behind it
 pub bad-stops : {before : ℕ} {cs : List ℕ} {n : ℕ} (post : List (List ℕ)) → BadUnkLine before cs n → readEntries (suc before) (cs ∷ post) ≡ stops n (suc before)
 unfolding readEntries
@@ -146,7 +144,7 @@ bad-stops {before = before} {cs = cs} post (entries-full {e = e} u full) =
     past full = omega arith
 
 cons-stops : (e : Entry) (o : Entries) (n place : ℕ) → consEntry e o ≡ stops n place → o ≡ stops n place
-cons-stops e (entries-are es) n place h = entries-stops h
+cons-stops e (entries-are es) n place h = stops-entries (sym h)
 cons-stops e (stops m p) n place h = h
 
 -- where the reader stops at a line or behind it: the line is bad, or it is an entry that has its place
@@ -176,4 +174,4 @@ unk-bad-line before cs n most = (λ h. go (line-view before cs (λ j. readEntrie
   where
     go : ((suc before ≡ suc before) × BadUnkLine before cs n) ⊎ ((e : Entry) × UnkLine cs e × (before < maxUnkEntries) × (entries-are [] ≡ stops n (suc before))) → BadUnkLine before cs n
     go (inl (p, b)) = b
-    go (inr (e, u, room, h)) = entries-stops h
+    go (inr (e, u, room, h)) = stops-entries (sym h)

@@ -12,13 +12,13 @@ use lib.Dec.{T}
 use lib.ListN.{length, take, drop, getElem?, length-append}
 use lib.Seq.{take-append-seam, drop-append-seam, drop-drop}
 use Rattle.paper.specs.Sizes.{maxU32, maxI32, lowI32, maxDetailBytes}
-use Rattle.paper.specs.Lists.{full, joined, sum, joinWith}
+use Rattle.paper.specs.Lists.{full, joined, sum, joinWith, offsetsFrom}
 use Rattle.paper.specs.Text.Scalar.{lf, cr, comma}
 use Rattle.paper.specs.Numbers.Bytes.{le, value}
 use Rattle.paper.specs.Numbers.Numeral.{Numeral, Integer, pos, neg, SignedNumeral, decimal}
-use Rattle.paper.specs.Unk.Entry.{Lines, no-line, at-LF, at-CRLF, Entry, nul, UnkLine, stored, offsetsFrom, Unk, unkOf, EachUnk, done, next, UnkFits, lengthBytes, wordOf, detailsAt, detailsOf}
-use Rattle.paper.proofs.Tables.Laws.{value-le}
+use Rattle.paper.specs.Unk.Entry.{Lines, no-line, at-LF, at-CRLF, Entry, nul, UnkLine, stored, Unk, unkOf, EachUnk, done, next, UnkFits, lengthBytes, wordOf, detailsAt, detailsOf}
 use Rattle.paper.proofs.Unk.Numbered.{found-map, unknown-from}
+use Rattle.paper.proofs.Tables.Laws.{value-le}
 
 -- the length of each piece and its separator
 abbrev spans : List (List ℕ) → ℕ
@@ -148,7 +148,3 @@ entry-unknown names bytes u f k = unknown-from (λ e. (e .left, e .right, e .cos
 
 pub details-unknown : (names : List (List ℕ)) (bytes : List ℕ) (u : Unk) (f : UnkFits names bytes u) (k : ℕ) → (detailsOf u k ≡ none) ↔ (length (f .entries) ≤ k)
 details-unknown names bytes u f k = unknown-from (λ e. e .details) (f .entries) k (detailsOf u k) (details-are names bytes u f k)
-
-pub offsets-length : (ls : List (List ℕ)) (at : ℕ) → length (offsetsFrom at ls) ≡ length ls
-offsets-length [] at = refl
-offsets-length (l ∷ ls) at = ap suc (offsets-length ls (at + length l))

@@ -14,8 +14,9 @@ use Rattle.paper.specs.Numbers.Numeral.{Integer, decimal, modulus16, wra
 use Rattle.paper.specs.Unk.Entry.{Entry, nul, UnkLine, Sixteen}
 use Rattle.paper.specs.Computed.Numeral.{numeral, signedNumeral}
 use Rattle.paper.specs.Computed.ReadUnk.{entry, no-entry, fromUnkNumbers, fromFields, unkLineOf}
-use Rattle.paper.proofs.CharDef.Sound.{zero-one, cut-pieces, numeral-sound}
-use Rattle.paper.proofs.CharDef.Complete.{le10, numeral-read}
+use Rattle.paper.proofs.Apart.{zero-one}
+use Rattle.paper.proofs.Lists.Pieces.{cut-pieces}
+use Rattle.paper.proofs.Numbers.Read.{numeral-sound, numeral-read, decimal-small}
 use Rattle.paper.proofs.Numbers.Laws.{signed, wrap-below}
 use Rattle.paper.proofs.Unk.Lines.{cut-joinWith, pieces-joinWith}
 
@@ -44,7 +45,7 @@ numbers-sound cs a b c d ds e w p (some l) ex (some r) ey (some i) ez h =
       rightNumber = r;
       right-read = numeral-sound decimal maxU32 c r ey;
       costNumber = i;
-      cost-read = signed decimal maxI32 lowI32 le10 d i .0 ez;
+      cost-read = signed decimal maxI32 lowI32 decimal-small d i .0 ez;
       left-is = refl;
       right-is = refl;
       cost-is = refl;
@@ -69,9 +70,9 @@ unk-line-complete cs e u =
     ap (λ x. fromFields (cut (is comma) x)) (u .whole)
     ∙ ap fromFields (cut-joinWith comma (e .category ∷ u .leftField ∷ u .rightField ∷ u .costField ∷ u .more) tt (u .parted))
     ∙ rw (
-      numeral-read decimal maxU32 le10 (u .left-read),
-      numeral-read decimal maxU32 le10 (u .right-read),
-      signed decimal maxI32 lowI32 le10 (u .costField) (u .costNumber) .1 (u .cost-read),
+      numeral-read decimal maxU32 decimal-small (u .left-read),
+      numeral-read decimal maxU32 decimal-small (u .right-read),
+      signed decimal maxI32 lowI32 decimal-small (u .costField) (u .costNumber) .1 (u .cost-read),
     )
     (λ i. entry (record { category = e .category; left = sym (u .left-is) i; right = sym (u .right-is) i; cost = sym (u .cost-is) i; details = sym (u .details-are) i }))
 

@@ -12,8 +12,8 @@ use Rattle.paper.specs.Lists.{empty, all, cut, push, is, without, joinWi
 use Rattle.paper.specs.Text.Scalar.{lf, cr}
 use Rattle.paper.specs.Unk.Entry.{endsCR, Lines, no-line, at-LF, at-CRLF}
 use Rattle.paper.specs.Computed.ReadUnk.{dropCR, fromPieces, unkLines}
-use Rattle.paper.proofs.Lists.Facts.{T→true, T→false, true→T, all-append, un, cut-run, pushAll, pushAll-first}
-use Rattle.paper.proofs.CharDef.Sound.{false→T, all-left, Pieces, last, then, cut-pieces}
+use Rattle.paper.proofs.Lists.Facts.{T→true, T→false, true→T, all-append, un, cut-run, pushAll, pushAll-first, false→T, all-left}
+use Rattle.paper.proofs.Lists.Pieces.{Pieces, last, then, cut-pieces}
 
 -- ---- pieces and what is between them
 

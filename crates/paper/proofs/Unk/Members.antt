@@ -15,9 +15,9 @@ use mir.Facts.{and-yes, yes-and, T-not, yes-leb}
 use Rattle.paper.specs.Lists.{all, any, same}
 use Rattle.paper.specs.Pack.Rules.{onceAfter, once}
 use Rattle.paper.specs.Unk.Entry.{Entry, entriesFrom, Unk, unkOf, UnkFits, entriesOf, rises, Listed, CategoryEntries}
+use Rattle.paper.proofs.Apart.{none-some}
 use Rattle.paper.proofs.Lists.Facts.{T→true, true→T}
 use Rattle.paper.proofs.Lists.Seen.{same-eq, same-refl}
-use Rattle.paper.proofs.Numbers.Laws.{none-some}
 use Rattle.paper.proofs.Unk.Numbered.{some-same, found-map, unknown-from, listed-here, listed-later, listed-cases, rising-one}
 
 -- ---- the entries with a name

@@ -11,11 +11,11 @@ use mathlib.Core.Option.{Option, none, some, Option·map, map-eq-none-iff}
 use mathlib.Core.List.{List, [], _∷_, map}
 use lib.Dec.{T, ltb, eqb, eqb→eq}
 use lib.ListN.{length, getElem?}
-use borrow.Author.Tests.{eq-eqb}
 use mir.Facts.{and-yes, or-yes, ltb-yes}
+use borrow.Author.Tests.{eq-eqb}
 use Rattle.paper.specs.Lists.{all, any}
 use Rattle.paper.specs.Unk.Entry.{rises, Listed}
-use Rattle.paper.proofs.Numbers.Laws.{none-some}
+use Rattle.paper.proofs.Apart.{none-some}
 
 -- ---- lists by number
 

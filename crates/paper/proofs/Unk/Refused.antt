@@ -2,7 +2,6 @@
 -- A text is walked with the lines already passed in hand, which are all entries.
 -- Assumes nothing.
 use Prim.Native.Nat.{ℕ, suc, _+_, _<_, _≤_}
-use native.Mathlib.Nat.{le-antisymm}
 use native.Mathlib.Omega.{arith}
 use mathlib.Core.Path.{_≡_, refl, sym, ap, ap₂, _∙_, subst}
 use mathlib.Core.Logic.{_⊎_, inl, inr, _↔_}
@@ -18,11 +17,13 @@ use Rattle.paper.specs.Unk.Entry.{Lines, Entry, UnkLine, EachUnk, done, 
 use Rattle.paper.specs.Unk.Bad.{BadUnkLine, fields-short, number-unreadable, entries-full, UnkFirstBad, UnkRefused, too-long, ill-formed, bad-line, UnkAnswer, accepted, refused, UnkAnswered, fitting, refusing}
 use Rattle.paper.specs.Computed.Decode.{Text, broken, chars, decode}
 use Rattle.paper.specs.Computed.ReadUnk.{unkLines, Entries, entries-are, stops, readEntries, answerUnk, readUnkText, readUnk}
-use Rattle.paper.proofs.CharDef.Answers.{well-formed, ill-read, prefix-of}
+use Rattle.paper.proofs.Apart.{stops-entries, unk-refused-accepted}
+use Rattle.paper.proofs.Text.Code.{reads, ill-read}
+use Rattle.paper.proofs.Text.Prefix.{prefix-of, longest-one}
 use Rattle.paper.proofs.Unk.Lines.{lines-are}
 use Rattle.paper.proofs.Unk.Line.{unk-line}
-use Rattle.paper.proofs.Unk.Text.{refused-unk, unk-accepts}
-use Rattle.paper.proofs.Unk.Bad.{stops-same, entries-stops, bad-stops, line-view}
+use Rattle.paper.proofs.Unk.Text.{unk-accepts}
+use Rattle.paper.proofs.Unk.Bad.{stops-same, bad-stops, line-view}
 
 -- ---- the first bad line
 
@@ -33,7 +34,7 @@ each-more (next v t) u = next v (each-more t u)
 stop-first : (css pre : List (List ℕ)) (es : List Entry) (bytes : List ℕ) (n place : ℕ) → Lines bytes (pre ++ css) → EachUnk pre es → length pre ≤ maxUnkEntries
     → readEntries (suc (length pre)) css ≡ stops n place → UnkFirstBad n place bytes
 unfolding readEntries
-stop-first [] pre es bytes n place split each few h = entries-stops h
+stop-first [] pre es bytes n place split each few h = stops-entries (sym h)
 stop-first (cs ∷ css) pre es bytes n place split each few h =
     go (line-view (length pre) cs (λ j. readEntries j css) n place few h) (λ es′. stop-first css (pre ++ (cs ∷ [])) es′ bytes n place)
   where
@@ -89,7 +90,7 @@ refused-same : {m n j k : ℕ} → refused m j ≡ refused n k → (m ≡ n) × 
 refused-same h = (cc, cc)
 
 answer-stops : (names : List (List ℕ)) (o : Entries) (n place : ℕ) → answerUnk names o ≡ refused n place → o ≡ stops n place
-answer-stops names (entries-are es) n place h = refused-unk (sym h)
+answer-stops names (entries-are es) n place h = unk-refused-accepted (sym h)
 answer-stops names (stops m p) n place h = let (en, ep) = refused-same h in ap₂ stops en ep
 
 unk-refused-sound : (names : List (List ℕ)) (bytes : List ℕ) (n place : ℕ) → readUnk names bytes ≡ refused n place → UnkRefused bytes n place
@@ -102,7 +103,7 @@ unk-refused-sound names bytes n place h = size-case (ltb maxTextBytes (length by
     text-case : length bytes ≤ maxTextBytes → (o : Text) → decode bytes ≡ o → readUnkText names bytes o ≡ refused n place → UnkRefused bytes n place
     text-case short (broken p) e h = moved h (ill-formed short (ill-read bytes p e) (prefix-of bytes p e))
     text-case short (chars cs) e h =
-        bad-line short (well-formed bytes .1 (cs, e)) (unk-first-bad bytes n place .0 (answer-stops names (readEntries 1 (unkLines bytes)) n place h))
+        bad-line short (reads bytes .1 (cs, e)) (unk-first-bad bytes n place .0 (answer-stops names (readEntries 1 (unkLines bytes)) n place h))
 
     size-case : (b : Bool) → ltb maxTextBytes (length bytes) ≡ b → cond b (refused textLong 0) (readUnkText names bytes (decode bytes)) ≡ refused n place → UnkRefused bytes n place
     size-case true e h = moved h (too-long (ltb-true maxTextBytes (length bytes) e))
@@ -112,10 +113,8 @@ ill-formed-at : (bytes : List ℕ) (p : ℕ) → (WellFormed bytes → ⊥) → 
 ill-formed-at bytes p ill l = go (decode bytes) refl
   where
     go : (o : Text) → decode bytes ≡ o → decode bytes ≡ broken p
-    go (chars cs) e = absurd (ill (well-formed bytes .1 (cs, e)))
-    go (broken q) e =
-        let k = prefix-of bytes q e in
-        e ∙ ap broken (le-antisymm (l .longest q (k .inside) (k .fits)) (k .longest p (l .inside) (l .fits)))
+    go (chars cs) e = absurd (ill (reads bytes .1 (cs, e)))
+    go (broken q) e = e ∙ ap broken (longest-one bytes q p (prefix-of bytes q e) l)
 
 unk-refused-complete : (names : List (List ℕ)) (bytes : List ℕ) (n place : ℕ) → UnkRefused bytes n place → readUnk names bytes ≡ refused n place
 unfolding readUnk
@@ -123,7 +122,7 @@ unk-refused-complete names bytes n place (too-long long) = rw (lt-ltb maxTextByt
 unk-refused-complete names bytes n place (ill-formed short ill l) =
     rw (le-ltb maxTextBytes (length bytes) short) (ap (readUnkText names bytes) (ill-formed-at bytes place ill l))
 unk-refused-complete names bytes n place (bad-line short w f) =
-    let (cs, e) = well-formed bytes .0 w in
+    let (cs, e) = reads bytes .0 w in
     rw (le-ltb maxTextBytes (length bytes) short)
     (ap (readUnkText names bytes) e ∙ ap (answerUnk names) (unk-first-bad bytes n place .1 f))
 

@@ -17,12 +17,11 @@ use Rattle.paper.specs.Unk.Entry.{Entry, Unk, EachUnk, done, next, UnkFi
 use Rattle.paper.specs.Unk.Bad.{accepted, refused}
 use Rattle.paper.specs.Computed.Decode.{Text, broken, chars, decode}
 use Rattle.paper.specs.Computed.ReadUnk.{unkLines, UnkFound, entry, no-entry, unkLineOf, Entries, entries-are, stops, consEntry, orFull, enterUnk, readEntries, answerUnk, readUnkText, readUnk}
-use Rattle.paper.proofs.Lists.Facts.{T→false}
-use Rattle.paper.proofs.CharDef.Sound.{false→T, zero-one}
+use Rattle.paper.proofs.Apart.{stops-entries, unk-refused-accepted}
+use Rattle.paper.proofs.Lists.Facts.{T→false, false→T}
 use Rattle.paper.proofs.Text.Code.{decode-complete, decode-sound}
 use Rattle.paper.proofs.Unk.Lines.{lines-are}
 use Rattle.paper.proofs.Unk.Line.{unk-line-sound, unk-line-complete}
-use Rattle.paper.proofs.Unk.Bad.{entries-stops}
 
 -- ---- all lines
 
@@ -40,18 +39,18 @@ entries-sound (cs ∷ css) k es small h = found-case (unkLineOf cs) refl h (λ e
     Goal = EachUnk (cs ∷ css) es × (k + length es ≤ suc maxUnkEntries)
 
     rest-case : (e : Entry) → unkLineOf cs ≡ entry e → k ≤ maxUnkEntries → (o : Entries) → readEntries (suc k) css ≡ o → consEntry e o ≡ entries-are es → Below → Goal
-    rest-case e ee room (stops n p) eo h ih = entries-stops (sym h)
+    rest-case e ee room (stops n p) eo h ih = stops-entries h
     rest-case e ee room (entries-are es′) eo h ih =
         let q : es ≡ e ∷ es′ = cc in
         let (f, l) = ih es′ (suc-le-suc room) eo in
         rw q (next (unk-line-sound cs e ee) f, omega arith)
 
     room-case : (e : Entry) → unkLineOf cs ≡ entry e → (b : Bool) → ltb maxUnkEntries k ≡ b → orFull b k e (λ j. readEntries j css) ≡ entries-are es → Below → Goal
-    room-case e ee true eb h ih = entries-stops (sym h)
+    room-case e ee true eb h ih = stops-entries h
     room-case e ee false eb h ih = rest-case e ee (ltb-false maxUnkEntries k eb) (readEntries (suc k) css) refl h ih
 
     found-case : (o : UnkFound) → unkLineOf cs ≡ o → enterUnk k o (λ j. readEntries j css) ≡ entries-are es → Below → Goal
-    found-case (no-entry n) eo h ih = entries-stops (sym h)
+    found-case (no-entry n) eo h ih = stops-entries h
     found-case (entry e) eo h ih = room-case e eo (ltb maxUnkEntries k) refl h ih
 
 entries-complete : {css : List (List ℕ)} {es : List Entry} (k : ℕ) → EachUnk css es → k + length es ≤ suc maxUnkEntries → readEntries k css ≡ entries-are es
@@ -69,15 +68,12 @@ entries-complete k (next {cs = cs} {e = e} {es = es} u t) h =
 
 -- ---- a text
 
-pub refused-unk {ℓ} : {X : Type ℓ} {n k : ℕ} {u : Unk} → refused n k ≡ accepted u → X
-refused-unk h = zero-one (cc)
-
 unk-accepted-fits : (names : List (List ℕ)) (bytes : List ℕ) (u : Unk) → readUnk names bytes ≡ accepted u → UnkFits names bytes u
 unfolding readUnk
 unk-accepted-fits names bytes u h = size-case (ltb maxTextBytes (length bytes)) refl h
   where
     lines-case : length bytes ≤ maxTextBytes → (cs : List ℕ) → decode bytes ≡ chars cs → (o : Entries) → readEntries 1 (unkLines bytes) ≡ o → answerUnk names o ≡ accepted u → UnkFits names bytes u
-    lines-case short cs ec (stops n k) eo h = refused-unk h
+    lines-case short cs ec (stops n k) eo h = unk-refused-accepted h
     lines-case short cs ec (entries-are es) eo h =
         let (sc, w) = decode-sound bytes 0 0 cs (unfold decode in ec) in
         let (each, few) = entries-sound (unkLines bytes) 1 es (lit≤ tt) eo in
@@ -95,11 +91,11 @@ unk-accepted-fits names bytes u h = size-case (ltb maxTextBytes (length bytes)) 
         }
 
     text-case : length bytes ≤ maxTextBytes → (o : Text) → decode bytes ≡ o → readUnkText names bytes o ≡ accepted u → UnkFits names bytes u
-    text-case short (broken at) e h = refused-unk h
+    text-case short (broken at) e h = unk-refused-accepted h
     text-case short (chars cs) e h = lines-case short cs e (readEntries 1 (unkLines bytes)) refl h
 
     size-case : (b : Bool) → ltb maxTextBytes (length bytes) ≡ b → cond b (refused textLong 0) (readUnkText names bytes (decode bytes)) ≡ accepted u → UnkFits names bytes u
-    size-case true e h = refused-unk h
+    size-case true e h = unk-refused-accepted h
     size-case false e h = text-case (ltb-no (false→T _ e)) (decode bytes) refl h
 
 unk-fits-accepted : (names : List (List ℕ)) (bytes : List ℕ) (u : Unk) → UnkFits names bytes u → readUnk names bytes ≡ accepted u

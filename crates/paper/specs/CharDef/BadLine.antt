@@ -8,11 +8,11 @@ use mathlib.Core.Bool.{Bool, false, not}
 use mathlib.Core.List.{List, [], _∷_, _++_}
 use lib.Dec.{T}
 use lib.ListN.{length}
-use Rattle.paper.specs.Sizes.{maxU16, maxU32, maxCategories, maxNameBytes, maxCategoryLines, maxRanges, maxReferences}
+use Rattle.paper.specs.Sizes.{maxU16, maxCategories, maxNameBytes, maxCategoryLines, maxRanges, maxReferences, lineFields}
 use Rattle.paper.specs.Refusals.{rangeParts, boundUnreadable, boundMark, categoryFields, categoryNumber, rangesFull, referencesFull, categoryLinesFull, categoriesFull, nameBytesFull}
 use Rattle.paper.specs.Lists.{all, full, any, same, without, freshAfter}
-use Rattle.paper.specs.Text.Scalar.{isWhite, isSep, hash, dot}
-use Rattle.paper.specs.Numbers.Numeral.{Numeral}
+use Rattle.paper.specs.Text.Scalar.{isWhite, isSep, hash, dot, byteOrderMark, swappedMark}
+use Rattle.paper.specs.Numbers.Numeral.{Numeral, NoU32, hexadecimal}
 use Rattle.paper.specs.CharDef.Line.{Line, category, range, LineFits, comment, begins0x, beginsWhite, zeroXs, Bound}
 use Rattle.paper.specs.CharDef.Reading.{Reading, namesOf, nameBytes, references}
 
@@ -79,23 +79,16 @@ pub record Hex16 (part : List ℕ) (code : ℕ) : Type 0 where
   pub times : ℕ
   pub numeral : List ℕ
   pub whole : part ≡ zeroXs times ++ numeral
-  pub number : Numeral 16 maxU16 numeral code
+  pub number : Numeral hexadecimal maxU16 numeral code
 
 pub data BadBound (part : List ℕ) : ℕ → Type 0 where
   -- 5: bound is no 16-bit hex number
   no-hex : ((code : ℕ) → Hex16 part code → ⊥) → BadBound part boundUnreadable
   -- 6: bound is FEFF or FFFE
-  mark : Hex16 part 0xFEFF → BadBound part boundMark
-  swapped : Hex16 part 0xFFFE → BadBound part boundMark
+  mark : Hex16 part byteOrderMark → BadBound part boundMark
+  swapped : Hex16 part swappedMark → BadBound part boundMark
 
 -- ---- a line that fits nothing
-
--- name, invoke, group, length
-abbrev pub neededFields : ℕ
-neededFields = 4
-
-abbrev pub NoU32 : List ℕ → Type 0
-NoU32 cs = (n : ℕ) → Numeral 10 maxU32 cs n → ⊥
 
 -- "Within a range line 4, 5 or 6 for the lower bound, 5 or 6 for the upper". "Within a category line 7, 8"
 pub data Misfit (cs : List ℕ) : ℕ → Type 0 where
@@ -107,7 +100,7 @@ pub data Misfit (cs : List ℕ) : ℕ → Type 0 where
   upper-bad : {bounds lower upper : List ℕ} {names : List (List ℕ)} {n bound : ℕ}
       → RangeFields cs bounds names → Parts bounds lower upper → Bound 0 lower bound → BadBound upper n → Misfit cs n
   -- 7: category line has not four fields
-  not-four : {fields : List (List ℕ)} → CategoryFields cs fields → length fields ≢ neededFields → Misfit cs categoryFields
+  not-four : {fields : List (List ℕ)} → CategoryFields cs fields → length fields ≢ lineFields → Misfit cs categoryFields
   -- 8: invoke, group or length is no u32
   no-number : {name invoke group len : List ℕ}
       → CategoryFields cs (name ∷ invoke ∷ group ∷ len ∷ []) → NoU32 invoke ⊎ (NoU32 group ⊎ NoU32 len) → Misfit cs categoryNumber
@@ -119,7 +112,7 @@ pub data NoRoom (known : List (List ℕ)) (name : List ℕ) : ℕ → Type 0 whe
   -- 12: category 513
   too-many : T (not (any (same name) known)) → maxCategories < length known + 1 → NoRoom known name categoriesFull
   -- 13: name bytes would pass 16,384
-  too-long : T (not (any (same name) known)) → length known + 1 ≤ maxCategories → maxNameBytes < nameBytes known + length name → NoRoom known name nameBytesFull
+  too-many-bytes : T (not (any (same name) known)) → length known + 1 ≤ maxCategories → maxNameBytes < nameBytes known + length name → NoRoom known name nameBytesFull
 
 -- the names known, and behind them the new ones among others, each at its first sight
 abbrev pub knownWith : List (List ℕ) → List (List ℕ) → List (List ℕ)

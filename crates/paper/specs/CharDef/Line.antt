@@ -6,10 +6,10 @@ use mathlib.Core.Logic.{_≢_}
 use mathlib.Core.Bool.{Bool, false, not, cond, _&&_}
 use mathlib.Core.List.{List, [], _∷_, _++_}
 use lib.Dec.{T, eqb}
-use Rattle.paper.specs.Sizes.{maxU16, maxU32}
+use Rattle.paper.specs.Sizes.{maxU16}
 use Rattle.paper.specs.Lists.{all, full, nothingOr}
-use Rattle.paper.specs.Text.Scalar.{between, isWhite, isSep, hash, dot, digit0, letterX}
-use Rattle.paper.specs.Numbers.Numeral.{Numeral}
+use Rattle.paper.specs.Text.Scalar.{isWhite, isSep, hash, dot, digit0, letterX, isSurrogate, byteOrderMark, swappedMark, replacement}
+use Rattle.paper.specs.Numbers.Numeral.{Numeral, hexadecimal, U32}
 
 pub data Line : Type 0 where
   blank : Line
@@ -51,7 +51,7 @@ zeroXs (suc k) = digit0 ∷ letterX ∷ zeroXs k
 
 -- D800 to DFFF stand for FFFD
 unfoldable pub standsFor : ℕ → ℕ
-standsFor c = cond (between 0xD800 0xDFFF c) 0xFFFD c
+standsFor c = cond (isSurrogate c) replacement c
 
 -- a bound: `0x` at least so many times, and a 16-bit numeral, neither FEFF nor FFFE
 pub record Bound (least : ℕ) (cs : List ℕ) (bound : ℕ) : Type 0 where
@@ -60,15 +60,15 @@ pub record Bound (least : ℕ) (cs : List ℕ) (bound : ℕ) : Type 0 where
   pub code : ℕ
   pub whole : cs ≡ zeroXs times ++ numeral
   pub enough : least ≤ times
-  pub number : Numeral 16 maxU16 numeral code
-  pub noMark : code ≢ 0xFEFF
-  pub noSwap : code ≢ 0xFFFE
+  pub number : Numeral hexadecimal maxU16 numeral code
+  pub noMark : code ≢ byteOrderMark
+  pub noSwap : code ≢ swappedMark
   pub says : bound ≡ standsFor code
 
 -- one bound is both; or two joined by `..`, the second with or without `0x`
 pub data Bounds (cs : List ℕ) (lower upper : ℕ) : Type 0 where
-  one : Bound 1 cs lower → upper ≡ lower → Bounds cs lower upper
-  two : (left right : List ℕ) → cs ≡ left ++ (dot ∷ dot ∷ right) → Bound 1 left lower → Bound 0 right upper → Bounds cs lower upper
+  one-bound : Bound 1 cs lower → upper ≡ lower → Bounds cs lower upper
+  two-bounds : (left right : List ℕ) → cs ≡ left ++ (dot ∷ dot ∷ right) → Bound 1 left lower → Bound 0 right upper → Bounds cs lower upper
 
 -- names, each after white space
 pub data Names : List ℕ → List (List ℕ) → Type 0 where
@@ -79,7 +79,7 @@ pub data Names : List ℕ → List (List ℕ) → Type 0 where
 -- a flag is true exactly at 1
 pub record Flag (cs : List ℕ) (flag : Bool) : Type 0 where
   pub number : ℕ
-  pub spelled : Numeral 10 maxU32 cs number
+  pub spelled : U32 cs number
   pub says : flag ≡ eqb number 1
 
 -- ---- the three kinds of lines
@@ -124,7 +124,7 @@ pub record CategoryLine (cs name : List ℕ) (invoke group : Bool) (length : ℕ
   pub sep₂ : T (full isSep gap₂)
   pub groups : Flag field₂ group
   pub sep₃ : T (full isSep gap₃)
-  pub lengths : Numeral 10 maxU32 field₃ length
+  pub lengths : U32 field₃ length
   pub whiteAfter : T (all isWhite after)
   pub isComment : T (comment rest)
 

@@ -4,10 +4,10 @@ use Prim.Native.Nat.{ℕ, _≤_}
 use mathlib.Core.Path.{_≡_}
 use mathlib.Core.Bool.{Bool, not}
 use mathlib.Core.List.{List, [], _∷_, map}
-use lib.Dec.{T, eqb}
+use lib.Dec.{T}
 use lib.ListN.{length}
 use Rattle.paper.specs.Sizes.{maxTextBytes, maxCategories, maxNameBytes, maxCategoryLines, maxRanges, maxReferences}
-use Rattle.paper.specs.Lists.{all, empty, joined, firstSeen, positionOf, same, sum, joinWith}
+use Rattle.paper.specs.Lists.{all, empty, joined, firstSeen, positionOf, same, sum, joinWith, is, without}
 use Rattle.paper.specs.Text.Scalar.{utf8, isScalar, lf}
 use Rattle.paper.specs.CharDef.Line.{Line, blank, category, range, LineFits}
 
@@ -79,12 +79,15 @@ pub record Within (r : Reading) : Type 0 where
 
 -- ---- texts
 
+abbrev pub isLF : ℕ → Bool
+isLF c = is lf c
+
 -- lines with LF between them
 abbrev pub joinLF : List (List ℕ) → List ℕ
 joinLF ls = joinWith lf ls
 
 abbrev pub noLF : List ℕ → Bool
-noLF cs = all (λ c. not (eqb c lf)) cs
+noLF cs = without lf cs
 
 -- line by line
 pub data EachFits : List (List ℕ) → List Line → Type 0 where
@@ -105,14 +108,7 @@ pub record Fits (bytes : List ℕ) (r : Reading) : Type 0 where
   pub says : r ≡ readingOf lines
   pub within : Within r
 
--- ---- lines of a text
-
-abbrev pub isLF : ℕ → Bool
-isLF c = eqb c lf
-
--- ---- answers
-
--- ---- the text
+-- ---- the answer to a text
 
 pub data Answer : Type 0 where
   accepted : Reading → Answer

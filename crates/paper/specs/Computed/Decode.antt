@@ -75,3 +75,8 @@ decodeFrom at (suc skip) (a ∷ s) = decodeFrom (suc at) skip s
 unfoldable pub decode : List ℕ → Text
 unfolding decodeFrom
 decode bytes = decodeFrom 0 0 bytes
+
+-- the length of the longest well-formed prefix: where the decoder breaks off, or all n bytes
+abbrev pub prefixOf : Text → ℕ → ℕ
+prefixOf (broken p) n = p
+prefixOf (chars cs) n = n

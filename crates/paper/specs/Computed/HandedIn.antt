@@ -10,7 +10,7 @@ use Rattle.paper.specs.Sizes.{maxCategories, maxNameBytes, maxCategoryLi
 use Rattle.paper.specs.Lists.{all}
 use Rattle.paper.specs.CharDef.Reading.{Reading}
 use Rattle.paper.specs.Pack.Rules.{isBound, once}
-use Rattle.paper.specs.Tables.Layout.{NameSlot, RangeSlot, Tables, pieces, nameSlotOf, definitionOf, slotOf, split, ranging}
+use Rattle.paper.specs.Tables.Layout.{NameSlot, RangeSlot, Tables, pieces, nameSlotOf, definitionOf, slotOf, split, ranging, nameSlotSize, definitionSize, rangeSlotSize, referenceSize, invokeAt, groupAt}
 use Rattle.paper.specs.Tables.Lent.{num}
 use Rattle.paper.specs.Computed.Rules.{formed}
 use Rattle.paper.specs.declared.Counts.{Counts}
@@ -26,9 +26,9 @@ enough names categories definitions ranges references n =
     && (leb (n .ranges) maxRanges
     && (leb (n .references) maxReferences
     && (leb (n .bytes) names
-    && (leb (4 * n .categories) categories
-    && (leb (6 * n .definitions) definitions
-    && (leb (8 * n .ranges) ranges && leb (2 * n .references) references))))))))
+    && (leb (nameSlotSize * n .categories) categories
+    && (leb (definitionSize * n .definitions) definitions
+    && (leb (rangeSlotSize * n .ranges) ranges && leb (referenceSize * n .references) references))))))))
 
 -- names one behind another from `at`, none empty, up to the total
 unfoldable pub nameSlotsStand : ℕ → ℕ → List NameSlot → Bool
@@ -43,25 +43,25 @@ slotsStand total at (r ∷ rs) =
     && (isBound (r .lower) && (isBound (r .upper) && (leb (at + r .count) total && slotsStand total (at + r .count) rs)))
 
 unfoldable pub flagged : List ℕ → Bool
-flagged p = leb (getD p 4 0) 1 && leb (getD p 5 0) 1
+flagged p = leb (getD p invokeAt 0) 1 && leb (getD p groupAt 0) 1
 
 unfoldable pub nameSlotsIn : Tables → Counts → List NameSlot
-nameSlotsIn t n = map nameSlotOf (pieces 4 (n .categories) (t .categories))
+nameSlotsIn t n = map nameSlotOf (pieces nameSlotSize (n .categories) (t .categories))
 
 unfoldable pub namesIn : Tables → Counts → List (List ℕ)
 namesIn t n = split (map (λ p. p .len) (nameSlotsIn t n)) (t .names)
 
 unfoldable pub slotsIn : Tables → Counts → List RangeSlot
-slotsIn t n = map slotOf (pieces 8 (n .ranges) (t .ranges))
+slotsIn t n = map slotOf (pieces rangeSlotSize (n .ranges) (t .ranges))
 
 unfoldable pub numbersIn : Tables → Counts → List ℕ
-numbersIn t n = map (num 2 0) (pieces 2 (n .references) (t .references))
+numbersIn t n = map (num referenceSize 0) (pieces referenceSize (n .references) (t .references))
 
 unfoldable pub decoded : Tables → Counts → Reading
 decoded t n =
     record {
       names = namesIn t n;
-      definitions = map definitionOf (pieces 6 (n .definitions) (t .definitions));
+      definitions = map definitionOf (pieces definitionSize (n .definitions) (t .definitions));
       ranges = ranging (slotsIn t n) (numbersIn t n);
     }
 
@@ -69,7 +69,7 @@ unfoldable pub holds : Tables → Counts → Bool
 holds t n =
     enough (length (t .names)) (length (t .categories)) (length (t .definitions)) (length (t .ranges)) (length (t .references)) n
     && (nameSlotsStand (n .bytes) 0 (nameSlotsIn t n)
-    && (all flagged (pieces 6 (n .definitions) (t .definitions))
+    && (all flagged (pieces definitionSize (n .definitions) (t .definitions))
     && (slotsStand (n .references) 0 (slotsIn t n)
     && (all (λ c. ltb c (n .categories)) (numbersIn t n)
     && (all formed (namesIn t n) && once (namesIn t n))))))

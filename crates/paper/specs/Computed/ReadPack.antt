@@ -15,22 +15,18 @@
 -- Assumes nothing.
 use Prim.Native.Nat.{ℕ, zero, suc, _+_, _*_}
 use mathlib.Core.Bool.{Bool, true, not, cond, _&&_}
-use mathlib.Core.List.{List, [], _∷_, map}
+use mathlib.Core.List.{List, [], _∷_}
 use lib.Dec.{leb, ltb, eqb}
 use lib.ListN.{length}
 use Rattle.paper.specs.Sizes.{maxCategories, maxNameBytes, maxCategoryLines, maxRanges, maxReferences}
 use Rattle.paper.specs.Refusals.{packVersion, packEnds, packRule, packLeftOver}
-use Rattle.paper.specs.Lists.{all, any, joined, same}
+use Rattle.paper.specs.Lists.{all, any, same}
 use Rattle.paper.specs.CharDef.Reading.{Definition, Range, Reading, references, Answer, accepted, refused}
-use Rattle.paper.specs.Pack.Fields.{bits, version, versionWidth, categoriesWidth, linesWidth, rangesWidth, referencesWidth, nameLengthWidth, byteWidth, flagWidth, lengthWidth, boundWidth, countWidth, numberWidth}
+use Rattle.paper.specs.Pack.Fields.{version, versionWidth, categoriesWidth, linesWidth, rangesWidth, referencesWidth, nameLengthWidth, byteWidth, flagWidth, lengthWidth, boundWidth, countWidth, numberWidth, bitsOf}
 use Rattle.paper.specs.Pack.Rules.{isBound}
 use Rattle.paper.specs.Computed.Rules.{formed}
 
 infixr 20 _▹_
--- the bits of bytes, in order
-abbrev pub unpackBits : List ℕ → List ℕ
-unpackBits bytes = joined (map (bits byteWidth) bytes)
-
 -- ---- a field's bits
 
 -- what the first bits say, and the bits behind them; or there are too few
@@ -105,7 +101,7 @@ demand b at s = cond b (gave tt at s) (broke packRule at)
 
 -- zero bits, fewer than eight, and nothing behind them
 abbrev pub isPadding : List ℕ → Bool
-isPadding s = ltb (length s) 8 && all (eqb 0) s
+isPadding s = ltb (length s) byteWidth && all (eqb 0) s
 
 unfoldable pub padding : Reader (Unit {0})
 padding at s = cond (isPadding s) (gave tt at []) (broke packLeftOver at)
@@ -201,4 +197,4 @@ answer (broke n at) = refused n at
 
 unfoldable pub readPack : List ℕ → Answer
 unfolding readAll readFields readCounted readBody readNames readName nameRule readDefinition readRanges readRange many padding demand bytesField fieldOr give _▹_ formed isBound references
-readPack bytes = answer (readAll 0 (unpackBits bytes))
+readPack bytes = answer (readAll 0 (bitsOf bytes))

@@ -10,7 +10,8 @@ use lib.ListN.{length}
 use Rattle.paper.specs.Sizes.{maxTextBytes, maxCategories, maxNameBytes, maxCategoryLines, maxRanges, maxReferences, maxU16, maxU32}
 use Rattle.paper.specs.Refusals.{textLong, textIllFormed, rangeParts, boundUnreadable, boundMark, categoryFields, categoryNumber, rangesFull, referencesFull, categoryLinesFull, categoriesFull, nameBytesFull}
 use Rattle.paper.specs.Lists.{any, cut, push, words, until, trimStart, trimEnd, same, positionOf}
-use Rattle.paper.specs.Text.Scalar.{isWhite, isSep, utf8, dot, digit0, letterX}
+use Rattle.paper.specs.Text.Scalar.{isWhite, isSep, utf8, dot, digit0, letterX, byteOrderMark, swappedMark}
+use Rattle.paper.specs.Numbers.Numeral.{decimal, hexadecimal}
 use Rattle.paper.specs.CharDef.Line.{Line, blank, category, range, begins0x, isHash, standsFor}
 use Rattle.paper.specs.CharDef.Reading.{Answer, accepted, refused, Definition, Reading, nameBytes, references, isLF}
 use Rattle.paper.specs.Computed.Decode.{Text, broken, chars, decode}
@@ -41,11 +42,11 @@ parts (c ∷ d ∷ cs) = let r = parts cs in let q = parts (d ∷ cs) in cond (e
 unfoldable pub checkedBound : Option ℕ → BoundFound
 unfolding standsFor
 checkedBound none = noBound boundUnreadable
-checkedBound (some c) = cond (eqb c 0xFEFF || eqb c 0xFFFE) (noBound boundMark) (boundIs (standsFor c))
+checkedBound (some c) = cond (eqb c byteOrderMark || eqb c swappedMark) (noBound boundMark) (boundIs (standsFor c))
 
 unfoldable pub boundOf : List ℕ → BoundFound
 unfolding checkedBound numeral
-boundOf cs = checkedBound (numeral 16 maxU16 (strip0x cs))
+boundOf cs = checkedBound (numeral hexadecimal maxU16 (strip0x cs))
 
 abbrev pub fromBounds : BoundFound → BoundFound → List (List ℕ) → Found
 fromBounds (noBound n) e names = wrong n
@@ -76,7 +77,7 @@ categoryOf [] = wrong categoryFields
 categoryOf (n ∷ []) = wrong categoryFields
 categoryOf (n ∷ i ∷ []) = wrong categoryFields
 categoryOf (n ∷ i ∷ g ∷ []) = wrong categoryFields
-categoryOf (n ∷ i ∷ g ∷ l ∷ []) = fromNumbers n (numeral 10 maxU32 i) (numeral 10 maxU32 g) (numeral 10 maxU32 l)
+categoryOf (n ∷ i ∷ g ∷ l ∷ []) = fromNumbers n (numeral decimal maxU32 i) (numeral decimal maxU32 g) (numeral decimal maxU32 l)
 categoryOf (n ∷ i ∷ g ∷ l ∷ m ∷ r) = wrong categoryFields
 
 unfoldable pub body : List ℕ → List ℕ

@@ -14,6 +14,9 @@ use Rattle.paper.specs.Text.Scalar.{between, plusSign, minusSign, digit0
 abbrev pub decimal : ℕ
 decimal = 10
 
+abbrev pub hexadecimal : ℕ
+hexadecimal = 16
+
 abbrev pub digit9 : ℕ
 digit9 = 0x39
 
@@ -100,6 +103,13 @@ U32 cs n = Numeral decimal maxU32 cs n
 
 abbrev pub I32 : List ℕ → Integer → Type 0
 I32 cs i = SignedNumeral decimal maxI32 lowI32 cs i
+
+-- the characters spell none
+abbrev pub NoU32 : List ℕ → Type 0
+NoU32 cs = (n : ℕ) → U32 cs n → ⊥
+
+abbrev pub NoI32 : List ℕ → Type 0
+NoI32 cs = (i : Integer) → I32 cs i → ⊥
 
 -- ---- sixteen bits
 

@@ -7,7 +7,7 @@ use lib.Dec.{T, leb, ltb, eqb}
 use lib.ListN.{length}
 use Rattle.paper.specs.Sizes.{maxU16, maxU32}
 use Rattle.paper.specs.Lists.{all, any, same, empty}
-use Rattle.paper.specs.Text.Scalar.{between, WellFormed}
+use Rattle.paper.specs.Text.Scalar.{WellFormed, isSurrogate, byteOrderMark, swappedMark}
 use Rattle.paper.specs.CharDef.Reading.{Definition, Range, Reading, Within}
 
 -- every category number is known
@@ -28,7 +28,7 @@ once ns = onceAfter [] ns
 
 -- a bound has 16 bits and is not D800 to DFFF, FEFF or FFFE
 unfoldable pub isBound : ℕ → Bool
-isBound c = leb c maxU16 && not (between 0xD800 0xDFFF c) && not (eqb c 0xFEFF) && not (eqb c 0xFFFE)
+isBound c = leb c maxU16 && not (isSurrogate c) && not (eqb c byteOrderMark) && not (eqb c swappedMark)
 
 unfoldable pub bounded : Range → Bool
 unfolding isBound

@@ -1,16 +1,18 @@
 -- Builders and the pack writer: "26, 16, 17 or 22", by what a reading needs and how much room is lent. A refusal's place is 0.
 -- Assumes nothing.
-use Prim.Native.Nat.{ℕ, _+_}
+use Prim.Native.Nat.{ℕ}
 use mathlib.Core.Bool.{Bool, cond, _||_}
-use mathlib.Core.List.{List, [], _∷_, map}
+use mathlib.Core.List.{map}
 use mathlib.Core.Option.{Option, none, some}
+use mathlib.Core.Path.{_≡_}
 use lib.Dec.{ltb}
 use lib.ListN.{length}
 use Rattle.paper.specs.Sizes.{maxFlatRow, bmpSize}
 use Rattle.paper.specs.Refusals.{flatRowLong, tableRoomShort, packRoomShort, tablesApart}
-use Rattle.paper.specs.Lists.{any, sum}
+use Rattle.paper.specs.Lists.{any, sum, offsetsFrom}
 use Rattle.paper.specs.CharDef.Reading.{Reading}
 use Rattle.paper.specs.Rows.Covering.{boundaries, rows}
+use Rattle.paper.specs.Rows.Flat.{flatIndex, flatPool}
 use Rattle.paper.specs.Pack.Fields.{packBytes}
 
 -- ---- the exact needs
@@ -67,7 +69,10 @@ packWritten (some r) n = cond (writeRoomShort r n) (refusedBy packRoomShort) bui
 
 -- ---- what is filled, besides boundaries, pools and index
 
--- where rows begin that stand one behind another from `at`
-unfoldable pub offsets : ℕ → List (List ℕ) → List ℕ
-offsets at [] = []
-offsets at (w ∷ ws) = at ∷ offsets (at + length w) ws
+-- the exact needs are the lengths of what is filled
+pub record ExactNeeds (r : Reading) : Type 0 where
+  pub of-boundaries : rowsNeeded r ≡ length (boundaries r)
+  pub of-starts : rowsNeeded r ≡ length (offsetsFrom 0 (rows r))
+  pub of-lengths : rowsNeeded r ≡ length (map length (rows r))
+  pub of-pool : placesNeeded r ≡ length (flatPool r)
+  pub of-index : bmpSize ≡ length (flatIndex r)

@@ -37,11 +37,11 @@ boundaries r = ascending (0 ∷ joined (map (λ g. g .lower ∷ (g .upper + 1) �
 -- ---- "the distinct categories of the ranges that hold it, by line and then left to right"
 
 -- a range holds its bounds and what is between them
-abbrev pub holds : ℕ → Range → Bool
-holds c r = leb (r .lower) c && leb c (r .upper)
+abbrev pub rangeHolds : ℕ → Range → Bool
+rangeHolds c r = leb (r .lower) c && leb c (r .upper)
 
 abbrev pub covers : Reading → ℕ → List ℕ
-covers r c = joined (map (λ g. g .categories) (select (holds c) (r .ranges)))
+covers r c = joined (map (λ g. g .categories) (select (rangeHolds c) (r .ranges)))
 
 unfoldable pub named : Reading → ℕ → List ℕ
 named r c = firstSeen eqb (covers r c)

@@ -32,8 +32,8 @@ evalRow bs ws c = getD ws (rowNumber bs c) []
 abbrev pub offsetUnit : ℕ
 offsetUnit = 256
 
-abbrev pub entry : ℕ → ℕ → ℕ
-entry offset len = offset * offsetUnit + len
+abbrev pub entryOf : ℕ → ℕ → ℕ
+entryOf offset len = offset * offsetUnit + len
 
 abbrev pub entryOffset : ℕ → ℕ
 entryOffset e = e / offsetUnit
@@ -53,7 +53,7 @@ unfoldable pub flatEntry : Reading → ℕ → ℕ
 unfolding offsetOf rows rowNumber boundaries
 flatEntry r c =
     let i = rowNumber (boundaries r) c in
-    entry (offsetOf (rows r) i) (length (getD (rows r) i []))
+    entryOf (offsetOf (rows r) i) (length (getD (rows r) i []))
 
 -- the part of the pool that an entry names
 unfoldable pub entryPart : ℕ → List ℕ → List ℕ

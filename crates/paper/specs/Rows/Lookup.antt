@@ -9,12 +9,12 @@ use lib.Dec.{T, leb, ltb, eqb}
 use lib.ListN.{length, getD, take, drop}
 use Rattle.paper.specs.Sizes.{bmpSize}
 use Rattle.paper.specs.Refusals.{notScalar, tablesApart}
-use Rattle.paper.specs.Lists.{empty}
+use Rattle.paper.specs.Lists.{empty, offsetsFrom}
 use Rattle.paper.specs.Text.Scalar.{isScalar}
 use Rattle.paper.specs.CharDef.Reading.{Reading}
 use Rattle.paper.specs.Rows.Covering.{boundaries, rows}
 use Rattle.paper.specs.Rows.Flat.{RowFound, entryOffset, entryLength, flatIndex, flatPool}
-use Rattle.paper.specs.Rows.Build.{rowOverlong, offsets}
+use Rattle.paper.specs.Rows.Build.{rowOverlong}
 
 -- what a lookup answers
 pub data Looked (A : Type 0) : Type 0 where
@@ -94,6 +94,12 @@ pub record Looks (t : LookupTables) (c : ℕ) (a : Looked Part) : Type 0 where
   pub found : T (fromZero (t .boundaries)) → RowFound (t .boundaries) c row
   pub answer : a ≡ lookup t c row
 
+-- a part is given, and it holds l
+pub record GivesPart (t : LookupTables) (l : List ℕ) (a : Looked Part) : Type 0 where
+  pub part : Part
+  pub given : a ≡ gives part
+  pub holds : content t part ≡ l
+
 -- ---- the packed lookup: "beyond the BMP or with an empty index .. absent and not refused"
 
 unfoldable pub packedAt : List ℕ → ℕ → Looked (Option ℕ)
@@ -108,19 +114,19 @@ packedAt index c =
 -- ---- tables as built
 
 -- l is x, with perhaps more behind it in the lent room; the lengths of boundaries and index count, so these are lent as they are
-abbrev pub Begins : List ℕ → List ℕ → Type 0
-Begins l x = take (length x) l ≡ x
+abbrev pub StartsWith : List ℕ → List ℕ → Type 0
+StartsWith l x = take (length x) l ≡ x
 
 pub record RowsLeft (r : Reading) (t : LookupTables) : Type 0 where
   pub boundaries-are : t .boundaries ≡ boundaries r
-  pub starts-are : Begins (t .starts) (offsets 0 (rows r))
-  pub lengths-are : Begins (t .lengths) (map length (rows r))
-  pub pool-is : Begins (t .pool) (flatPool r)
+  pub starts-are : StartsWith (t .starts) (offsetsFrom 0 (rows r))
+  pub lengths-are : StartsWith (t .lengths) (map length (rows r))
+  pub pool-is : StartsWith (t .pool) (flatPool r)
 
 pub record FlatLeft (r : Reading) (t : LookupTables) : Type 0 where
   pub row-fits : T (not (rowOverlong r))
   pub index-is : t .index ≡ flatIndex r
-  pub pool-is : Begins (t .flat) (flatPool r)
+  pub pool-is : StartsWith (t .flat) (flatPool r)
 
 pub data AsBuilt (r : Reading) (t : LookupTables) : Type 0 where
   without-flat : RowsLeft r t → t .index ≡ [] → AsBuilt r t

@@ -1,13 +1,13 @@
 -- A reading's tables as bytes, DESIGN.md section 6: entries one behind another, numbers with the least byte first; "names and references
 -- stand in their stores one behind another from 0, in order".
 -- Assumes nothing.
-use Prim.Native.Nat.{ℕ, zero, suc, _+_, _*_}
+use Prim.Native.Nat.{ℕ, zero, suc, _+_, _*_, _≤_}
 use mathlib.Core.List.{List, [], _∷_, _++_, map}
 use lib.Dec.{eqb}
 use lib.ListN.{length, take, drop, getD}
 use Rattle.paper.specs.Sizes.{maxCategories, maxNameBytes, maxCategoryLines, maxRanges, maxReferences}
 use Rattle.paper.specs.Lists.{joined}
-use Rattle.paper.specs.Numbers.Bytes.{le}
+use Rattle.paper.specs.Numbers.Bytes.{le, u16Size, u32Size}
 use Rattle.paper.specs.CharDef.Reading.{Definition, Range, Reading, nameBytes, references}
 use Rattle.paper.specs.Pack.Fields.{flag}
 use Rattle.paper.specs.Tables.Lent.{num, padded}
@@ -30,23 +30,55 @@ pub record RangeSlot : Type 0 where
   pub first : ℕ
   pub count : ℕ
 
+-- the bytes of an entry: a name's start and length; a definition's length and flags; a range's bounds, first reference and count
+abbrev pub nameSlotSize : ℕ
+nameSlotSize = 4
+
+abbrev pub definitionSize : ℕ
+definitionSize = 6
+
+abbrev pub rangeSlotSize : ℕ
+rangeSlotSize = 8
+
+abbrev pub referenceSize : ℕ
+referenceSize = 2
+
+-- where its fields stand in it, behind the first
+abbrev pub nameLenAt : ℕ
+nameLenAt = 2
+
+abbrev pub invokeAt : ℕ
+invokeAt = 4
+
+abbrev pub groupAt : ℕ
+groupAt = 5
+
+abbrev pub upperAt : ℕ
+upperAt = 2
+
+abbrev pub firstAt : ℕ
+firstAt = 4
+
+abbrev pub countAt : ℕ
+countAt = 6
+
 abbrev pub nameSlotBytes : NameSlot → List ℕ
-nameSlotBytes p = le 2 (p .start) ++ le 2 (p .len)
+nameSlotBytes p = le u16Size (p .start) ++ le u16Size (p .len)
 
 abbrev pub definitionBytes : Definition → List ℕ
-definitionBytes d = le 4 (d .len) ++ (flag (d .invoke) ∷ flag (d .group) ∷ [])
+definitionBytes d = le u32Size (d .len) ++ (flag (d .invoke) ∷ flag (d .group) ∷ [])
 
 abbrev pub slotBytes : RangeSlot → List ℕ
-slotBytes r = le 2 (r .lower) ++ (le 2 (r .upper) ++ (le 2 (r .first) ++ le 2 (r .count)))
+slotBytes r = le u16Size (r .lower) ++ (le u16Size (r .upper) ++ (le u16Size (r .first) ++ le u16Size (r .count)))
 
 abbrev pub nameSlotOf : List ℕ → NameSlot
-nameSlotOf p = record { start = num 2 0 p; len = num 2 2 p }
+nameSlotOf p = record { start = num u16Size 0 p; len = num u16Size nameLenAt p }
 
 abbrev pub definitionOf : List ℕ → Definition
-definitionOf p = record { invoke = eqb (getD p 4 0) 1; group = eqb (getD p 5 0) 1; len = num 4 0 p }
+definitionOf p = record { invoke = eqb (getD p invokeAt 0) 1; group = eqb (getD p groupAt 0) 1; len = num u32Size 0 p }
 
 abbrev pub slotOf : List ℕ → RangeSlot
-slotOf p = record { lower = num 2 0 p; upper = num 2 2 p; first = num 2 4 p; count = num 2 6 p }
+slotOf p = record { lower = num u16Size 0 p; upper = num u16Size upperAt p; first = num u16Size firstAt p; count = num u16Size countAt p }
 
 -- ---- one behind another
 
@@ -96,7 +128,7 @@ abbrev pub numbersOf : List Range → List ℕ
 numbersOf gs = joined (map (λ g. g .categories) gs)
 
 abbrev pub referenceTable : List Range → List ℕ
-referenceTable gs = joined (map (le 2) (numbersOf gs))
+referenceTable gs = joined (map (le referenceSize) (numbersOf gs))
 
 unfoldable pub layout : Reading → Tables
 layout r =
@@ -113,10 +145,10 @@ unfoldable pub used : Counts → Tables → Tables
 used n t =
     record {
       names = take (n .bytes) (t .names);
-      categories = take (4 * n .categories) (t .categories);
-      definitions = take (6 * n .definitions) (t .definitions);
-      ranges = take (8 * n .ranges) (t .ranges);
-      references = take (2 * n .references) (t .references);
+      categories = take (nameSlotSize * n .categories) (t .categories);
+      definitions = take (definitionSize * n .definitions) (t .definitions);
+      ranges = take (rangeSlotSize * n .ranges) (t .ranges);
+      references = take (referenceSize * n .references) (t .references);
     }
 
 unfoldable pub behind : Tables → Tables → Tables
@@ -136,8 +168,16 @@ unfoldable pub inRoom : Tables → Tables
 inRoom t =
     record {
       names = padded maxNameBytes (t .names);
-      categories = padded (4 * maxCategories) (t .categories);
-      definitions = padded (6 * maxCategoryLines) (t .definitions);
-      ranges = padded (8 * maxRanges) (t .ranges);
-      references = padded (2 * maxReferences) (t .references);
+      categories = padded (nameSlotSize * maxCategories) (t .categories);
+      definitions = padded (definitionSize * maxCategoryLines) (t .definitions);
+      ranges = padded (rangeSlotSize * maxRanges) (t .ranges);
+      references = padded (referenceSize * maxReferences) (t .references);
     }
+
+-- tables that the room is enough for
+pub record FitsRoom (t : Tables) : Type 0 where
+  pub names : length (t .names) ≤ maxNameBytes
+  pub categories : length (t .categories) ≤ nameSlotSize * maxCategories
+  pub definitions : length (t .definitions) ≤ definitionSize * maxCategoryLines
+  pub ranges : length (t .ranges) ≤ rangeSlotSize * maxRanges
+  pub references : length (t .references) ≤ referenceSize * maxReferences

@@ -1,6 +1,6 @@
 -- "Text": scalar values, their UTF-8 (RFC 3629) and well-formed UTF-8, White_Space (Unicode), and characters by name.
 -- Assumes nothing.
-use Prim.Native.Nat.{ℕ, _+_, _/_, _%_, _≤_}
+use Prim.Native.Nat.{ℕ, _+_, _/_, _%_, _≤_, _-_}
 use mathlib.Core.Bool.{Bool, cond, _&&_, _||_}
 use mathlib.Core.List.{List, [], _∷_, _++_}
 use lib.Dec.{T, leb, eqb}
@@ -13,8 +13,31 @@ use Rattle.paper.specs.Lists.{any}
 abbrev pub between : ℕ → ℕ → ℕ → Bool
 between lo hi a = leb lo a && leb a hi
 
+-- surrogates, the last scalar value, and three characters that a bound makes a case of
+abbrev pub firstSurrogate : ℕ
+firstSurrogate = 0xD800
+
+abbrev pub lastSurrogate : ℕ
+lastSurrogate = 0xDFFF
+
+abbrev pub lastScalar : ℕ
+lastScalar = 0x10FFFF
+
+abbrev pub replacement : ℕ
+replacement = 0xFFFD
+
+abbrev pub byteOrderMark : ℕ
+byteOrderMark = 0xFEFF
+
+abbrev pub swappedMark : ℕ
+swappedMark = 0xFFFE
+
+abbrev pub isSurrogate : ℕ → Bool
+isSurrogate c = between firstSurrogate lastSurrogate c
+
+-- RFC 3629: "0 to D7FF and E000 to 10FFFF"
 unfoldable pub isScalar : ℕ → Bool
-isScalar c = between 0 0xD7FF c || between 0xE000 0x10FFFF c
+isScalar c = between 0 (firstSurrogate - 1) c || between (lastSurrogate + 1) lastScalar c
 
 abbrev pub IsScalar : ℕ → Type 0
 IsScalar c = T (isScalar c)
@@ -64,28 +87,22 @@ pub record LongestPrefix (p : ℕ) (bytes : List ℕ) : Type 0 where
   pub fits : WellFormed (take p bytes)
   pub longest : (n : ℕ) → n ≤ length bytes → WellFormed (take n bytes) → n ≤ p
 
--- ---- White_Space
-
--- "U+0009 to 000D, 0020, 0085, 00A0, 1680, 2000 to 200A, 2028, 2029, 202F, 205F, 3000": the first and the last of each run
-abbrev pub whites : List (ℕ × ℕ)
-whites =
-    (0x0009, 0x000D) ∷ (0x0020, 0x0020) ∷ (0x0085, 0x0085) ∷ (0x00A0, 0x00A0) ∷ (0x1680, 0x1680) ∷ (0x2000, 0x200A)
-    ∷ (0x2028, 0x2028) ∷ (0x2029, 0x2029) ∷ (0x202F, 0x202F) ∷ (0x205F, 0x205F) ∷ (0x3000, 0x3000) ∷ []
-
-unfoldable pub isWhite : ℕ → Bool
-isWhite c = any (λ r. between (r .0) (r .1) c) whites
-
--- "a category line's fields are split at TAB, FF, CR and space only"
-unfoldable pub isSep : ℕ → Bool
-isSep c = eqb c 0x09 || eqb c 0x0C || eqb c 0x0D || eqb c 0x20
-
 -- ---- characters that the paper writes as themselves or by name
+
+abbrev pub tab : ℕ
+tab = 0x09
 
 abbrev pub lf : ℕ
 lf = 0x0A
 
+abbrev pub formFeed : ℕ
+formFeed = 0x0C
+
 abbrev pub cr : ℕ
 cr = 0x0D
+
+abbrev pub space : ℕ
+space = 0x20
 
 abbrev pub hash : ℕ
 hash = 0x23
@@ -107,3 +124,18 @@ digit0 = 0x30
 
 abbrev pub letterX : ℕ
 letterX = 0x78
+
+-- ---- White_Space
+
+-- "U+0009 to 000D, 0020, 0085, 00A0, 1680, 2000 to 200A, 2028, 2029, 202F, 205F, 3000": the first and the last of each run
+abbrev pub whites : List (ℕ × ℕ)
+whites =
+    (0x0009, 0x000D) ∷ (0x0020, 0x0020) ∷ (0x0085, 0x0085) ∷ (0x00A0, 0x00A0) ∷ (0x1680, 0x1680) ∷ (0x2000, 0x200A)
+    ∷ (0x2028, 0x2028) ∷ (0x2029, 0x2029) ∷ (0x202F, 0x202F) ∷ (0x205F, 0x205F) ∷ (0x3000, 0x3000) ∷ []
+
+unfoldable pub isWhite : ℕ → Bool
+isWhite c = any (λ r. between (r .0) (r .1) c) whites
+
+-- "a category line's fields are split at TAB, FF, CR and space only"
+unfoldable pub isSep : ℕ → Bool
+isSep c = eqb c tab || eqb c formFeed || eqb c cr || eqb c space

@@ -7,18 +7,14 @@ use mathlib.Core.Logic.{_⊎_}
 use mathlib.Core.List.{List, _∷_, _++_}
 use lib.Dec.{T}
 use lib.ListN.{length}
-use Rattle.paper.specs.Sizes.{maxTextBytes, maxUnkEntries}
+use Rattle.paper.specs.Sizes.{maxTextBytes, maxUnkEntries, lineFields}
 use Rattle.paper.specs.Refusals.{textLong, textIllFormed, unkFields, unkNumber, unkEntriesFull}
 use Rattle.paper.specs.Lists.{all, without, joinWith}
 use Rattle.paper.specs.Text.Scalar.{comma, WellFormed, LongestPrefix}
-use Rattle.paper.specs.Numbers.Numeral.{U32, I32, Integer}
+use Rattle.paper.specs.Numbers.Numeral.{NoU32, NoI32}
 use Rattle.paper.specs.Unk.Entry.{Lines, Entry, UnkLine, EachUnk, Unk, UnkFits}
 
 -- ---- a line
-
--- category, left, right and cost
-abbrev pub neededFields : ℕ
-neededFields = 4
 
 -- "unk line has under four fields": what stands between its commas, and a line with no comma is one field
 pub record UnderFour (cs : List ℕ) : Type 0 where
@@ -26,13 +22,7 @@ pub record UnderFour (cs : List ℕ) : Type 0 where
   pub more : List (List ℕ)
   pub whole : cs ≡ joinWith comma (first ∷ more)
   pub parted : T (all (without comma) (first ∷ more))
-  pub few : length (first ∷ more) < neededFields
-
-abbrev pub NoU32 : List ℕ → Type 0
-NoU32 cs = (n : ℕ) → U32 cs n → ⊥
-
-abbrev pub NoI32 : List ℕ → Type 0
-NoI32 cs = (i : Integer) → I32 cs i → ⊥
+  pub few : length (first ∷ more) < lineFields
 
 -- "unk left, right or cost unreadable", in a line of four fields or more
 pub record Unreadable (cs : List ℕ) : Type 0 where

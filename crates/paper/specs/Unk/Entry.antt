@@ -9,7 +9,7 @@ use mathlib.Core.List.{List, [], _∷_, _++_, map}
 use lib.Dec.{T, ltb, eqb}
 use lib.ListN.{length, take, drop, getElem?}
 use Rattle.paper.specs.Sizes.{maxTextBytes, maxUnkEntries}
-use Rattle.paper.specs.Lists.{empty, all, any, joined, same, is, without, joinWith}
+use Rattle.paper.specs.Lists.{empty, all, any, joined, same, is, without, joinWith, offsetsFrom}
 use Rattle.paper.specs.Text.Scalar.{utf8, isScalar, lf, cr, comma}
 use Rattle.paper.specs.Numbers.Bytes.{le, value}
 use Rattle.paper.specs.Numbers.Numeral.{U32, I32, Integer, modulus16, wrap16}
@@ -76,11 +76,6 @@ lengthBytes = 4
 -- the details "behind a 4-byte little-endian length"
 unfoldable pub stored : Entry → List ℕ
 stored e = le lengthBytes (length (e .details)) ++ e .details
-
--- where each begins, from `at` on
-abbrev pub offsetsFrom : ℕ → List (List ℕ) → List ℕ
-offsetsFrom at [] = []
-offsetsFrom at (l ∷ ls) = at ∷ offsetsFrom (at + length l) ls
 
 -- the numbers, from k on, of the entries whose first field is the name
 abbrev pub entriesFrom : ℕ → List ℕ → List Entry → List ℕ
