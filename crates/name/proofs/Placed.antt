@@ -116,8 +116,8 @@ module _ {store l : List ℕ} {n : ℕ} {name : List ℕ} {i : ℕ} (z : Placing
         passed (differs name (nameIn store (slotAt l i)) (λ d. h (len-is l n i lt (z .long) len el ∙ sym k ∙ sym d)))
 
     -- a name of the same length k: its bytes decide
-    module _ (start len k : ℕ) (es : start ≡ got 2 (slotWidth * i) l) (el : len ≡ got 2 (slotWidth * i + 2) l) (e : len ≡ k) (whole : k ≡ length name)
-        (r : Bool) (er : r ≡ same (drop 0 (take k name)) (take (k - 0) (drop start store))) where
+    module _ (start len k : ℕ) (es : start ≡ got 2 (slotWidth * i) l) (el : len ≡ got 2 (slotWidth * i + 2) l) (whole : k ≡ length name)
+        (r : Bool) (er : r ≡ same (drop 0 (take k name)) (take (k - 0) (drop start store))) (e : len ≡ k) where
       is-name : r ≡ same name (nameIn store (slotAt l i))
       is-name =
           er ∙ whole-name store name start k whole

@@ -1,7 +1,7 @@
 -- `name::find_placed` meets its contract: the names whose slots are left decide as all do. Assumes nothing.
 use Prim.Native.Nat.{_-_, _≤_}
 use native.Mathlib.Omega.{arith}
-use mathlib.Core.Path.{_≡_, refl, sym, _∙_}
+use mathlib.Core.Path.{_≡_, refl}
 use lib.ListN.{length}
 use Rattle.name.proofs.Placed.{Placing, place-start, place-done, place-other, place-hit, place-on}
 use Rattle.name.proofs.find_placed.Statement.{statement}
@@ -40,7 +40,7 @@ holds-at-requires c κs = omega arith
 returns : tie.Need-returns Inv-loop μ-loop
 returns c =
     let l = (c .before .before .before .before .before .before .loop) in
-    place-hit (l .inv .1) (c .before .before .before .before .before .loop-test .taken) _ _ _ (c .before .before .get-u162 .ensures) (c .before .before .before .before .get-u16 .ensures) (c .before .before .before .if1 .taken) (l .inv .0 .1) _ (c .before .holds-at .ensures) (c .if2 .taken)
+    place-hit (l .inv .1) (c .before .before .before .before .before .loop-test .taken) _ _ _ (c .before .before .get-u162 .ensures) (c .before .before .before .before .get-u16 .ensures) (l .inv .0 .1) _ (c .before .holds-at .ensures) (omega arith) (c .if2 .taken)
 
 add-i : tie.Need-add-i Inv-loop μ-loop
 add-i c = omega arith
@@ -51,7 +51,7 @@ loop-less c = omega arith
 loop-again : tie.Need-loop-again Inv-loop μ-loop
 loop-again c =
     let l = (c .before .before .before .before .before .before .loop) in
-    ((omega arith, l .inv .0 .1), place-on (l .inv .1) (c .before .before .before .before .before .loop-test .taken) _ _ _ (c .before .before .get-u162 .ensures) (c .before .before .before .before .get-u16 .ensures) (c .before .before .before .if1 .taken) (l .inv .0 .1) _ (c .before .holds-at .ensures) (c .if2 .left))
+    ((omega arith, l .inv .0 .1), place-on (l .inv .1) (c .before .before .before .before .before .loop-test .taken) _ _ _ (c .before .before .get-u162 .ensures) (c .before .before .before .before .get-u16 .ensures) (l .inv .0 .1) _ (c .before .holds-at .ensures) (omega arith) (c .if2 .left))
 
 add-i-2 : tie.Need-add-i-2 Inv-loop μ-loop
 add-i-2 c = omega arith
@@ -62,7 +62,7 @@ loop-less-2 c = omega arith
 loop-again-2 : tie.Need-loop-again-2 Inv-loop μ-loop
 loop-again-2 c =
     let l = (c .before .before .before .loop) in
-    ((omega arith, l .inv .0 .1), place-other (l .inv .1) (c .before .before .loop-test .taken) _ (c .before .get-u16 .ensures) (λ e. (c .if1 .left) (e ∙ sym (l .inv .0 .1))))
+    ((omega arith, l .inv .0 .1), place-other (l .inv .1) (c .before .before .loop-test .taken) _ (c .before .get-u16 .ensures) (λ e. omega arith))
 
 returns-2 : tie.Need-returns-2 Inv-loop μ-loop
 returns-2 c = place-done (c .before .loop .inv .1) (c .loop-test .left)

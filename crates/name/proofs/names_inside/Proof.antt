@@ -43,7 +43,7 @@ returns : tie.Need-returns Inv-loop μ-loop
 returns c =
     let l = (c .before .before .before .before .loop) in
     inside-fails (now (c .before .before .before .before .before .before .before .args .names)) _ _ _ _ (l .inv .1) (c .before .before .before .loop-test .taken) (c .before .before .before .before .before .before .before .pre) _ _
-    (c .before .before .get-u16 .ensures) (c .before .get-u162 .ensures) (c .if1 .taken)
+    (c .before .before .get-u16 .ensures) (c .before .get-u162 .ensures) (omega arith)
 
 add-i : tie.Need-add-i Inv-loop μ-loop
 add-i c = omega arith
@@ -56,7 +56,7 @@ loop-again c =
     let l = (c .before .before .before .before .loop) in (
       omega arith,
       inside-goes (now (c .before .before .before .before .before .before .before .args .names)) _ _ _ _ (l .inv .1) (c .before .before .before .loop-test .taken) (c .before .before .before .before .before .before .before .pre) _ _
-          (c .before .before .get-u16 .ensures) (c .before .get-u162 .ensures) (c .if1 .left),
+          (c .before .before .get-u16 .ensures) (c .before .get-u162 .ensures) (omega arith),
     )
 
 returns-2 : tie.Need-returns-2 Inv-loop μ-loop

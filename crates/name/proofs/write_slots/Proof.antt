@@ -65,13 +65,13 @@ loop-less c = omega arith
 loop-again : tie.Need-loop-again Inv-loop μ-loop
 loop-again c =
     let l = (c .before .before .before .before .before .before .before .before .before .before .before .before .loop) in
-    write-on (l .inv) (c .before .before .before .before .before .before .before .before .before .before .before .loop-test .taken) _ _ _ _ _ refl (c .before .before .before .before .before .before .before .before .slot-start .ensures) (c .before .before .before .slot-len .ensures) (c .before .before .before .before .before .before .before .put-u16 .ensures) (c .before .before .put-u162 .ensures)
+    write-on (l .inv) (omega arith) _ _ _ _ _ refl (c .before .before .before .before .before .before .before .before .slot-start .ensures) (c .before .before .before .slot-len .ensures) (c .before .before .before .before .before .before .before .put-u16 .ensures) (c .before .before .put-u162 .ensures)
 
 same-length : tie.Need-same-length Inv-loop μ-loop
 same-length c = (c .before .loop .inv .long)
 
 returns-3 : tie.Need-returns-3 Inv-loop μ-loop
-returns-3 c = write-done (c .before .loop .inv) (c .loop-test .left)
+returns-3 c = write-done (c .before .loop .inv) (omega arith)
 
 pub write-slots-spec : {M : Type 1} → statement M
 write-slots-spec =
