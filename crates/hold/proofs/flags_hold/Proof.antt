@@ -52,7 +52,7 @@ loop-less : tie.Need-loop-less Inv-loop μ-loop
 loop-less c = omega arith
 
 loop-again : tie.Need-loop-again Inv-loop μ-loop
-loop-again c = (omega arith, flags-go _ _ _ _ (c .before .before .before .before .before .loop .inv .1) (c .before .before .before .before .loop-test .taken) (record { invoke = c .before .before .if1 .left; group = c .if2 .left }))
+loop-again c = (omega arith, flags-go _ _ _ _ (c .before .before .before .before .before .loop .inv .1) (c .before .before .before .before .loop-test .taken) (record { invoke = omega arith; group = omega arith }))
 
 returns-3 : tie.Need-returns-3 Inv-loop μ-loop
 returns-3 c = all-ends 6 flagged _ _ _ _ (c .before .loop .inv .1) (c .loop-test .left)

@@ -43,7 +43,7 @@ returns : tie.Need-returns Inv-loop μ-loop
 returns c =
     name-fails _ _ _ _ _ _ _ _ (c .before .before .before .before .loop .inv .1 .1) (c .before .before .before .loop-test .taken)
     (c .before .before .before .before .before .before .pre) (c .before .before .get-u16 .ensures) (c .before .get-u162 .ensures)
-    (λ h. c .if1 .taken (h .here))
+    (λ h. omega arith)
 
 returns-2 : tie.Need-returns-2 Inv-loop μ-loop
 returns-2 c =
@@ -77,7 +77,7 @@ loop-again c = (
     name-goes _ _ _ _ _ _ _ _ (c .before .before .before .before .before .before .loop .inv .1 .1)
         (c .before .before .before .before .before .loop-test .taken) (c .before .before .before .before .before .before .before .before .pre)
         (c .before .before .before .before .get-u16 .ensures) (c .before .before .before .get-u162 .ensures)
-        (record { here = c .before .before .if1 .left; some = omega arith; fits = omega arith }),
+        (record { here = omega arith; some = omega arith; fits = omega arith }),
   ),
 )
 

@@ -64,7 +64,7 @@ returns c =
     (c .before .before .before .before .before .loop-test .taken) (c .before .before .before .before .before .before .before .before .pre)
     (c .before .before .before .before .get-u16 .ensures) (c .before .before .before .get-u162 .ensures)
     (c .before .before .get-u163 .ensures) (c .before .get-u164 .ensures)
-    (λ h. c .if1 .taken (h .here))
+    (λ h. omega arith)
 
 is-bound-requires : tie.Need-is-bound-requires Inv-loop μ-loop
 is-bound-requires c κs = omega arith
@@ -126,7 +126,7 @@ loop-again c = (
         (c .before .before .before .before .before .before .before .before .before .before .before .before .before .pre)
         (c .before .before .before .before .before .before .before .before .before .get-u16 .ensures) (c .before .before .before .before .before .before .before .before .get-u162 .ensures) (c .before .before .before .before .before .before .before .get-u163 .ensures) (c .before .before .before .before .before .before .get-u164 .ensures)
         (record {
-          here = c .before .before .before .before .before .if1 .left;
+          here = omega arith;
           lower-ok = passed _ _ (c .before .before .before .before .is-bound .ensures) (c .before .before .before .if2 .left);
           upper-ok = passed _ _ (c .before .before .is-bound2 .ensures) (c .before .if3 .left);
           fits = omega arith;
