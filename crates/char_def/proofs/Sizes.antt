@@ -1,0 +1,129 @@
+-- The five lengths that `parse` asks for, tables of just these sizes, and zero in all their places.
+-- Assumes nothing.
+use Prim.Native.Nat.{ℕ, _+_, _*_, _-_, _≤_, _<_}
+use native.Mathlib.Nat.{le-refl}
+use native.Mathlib.Omega.{arith}
+use mathlib.Core.Path.{_≡_, refl, sym, ap, _∙_, subst}
+use mathlib.Core.Bool.{Bool, true, false, not, _&&_}
+use mathlib.Core.List.{List, [], _++_, append-nil}
+use lib.Dec.{T, leb}
+use lib.ListN.{length, take, drop, replicate, drop-of-length-le}
+use lib.Seq.{length-take-le}
+use mir.Facts.{and-yes, yes-and, yes-leb, leb-yes}
+use borrow.Author.Tests.{le-leb}
+use Rattle.paper.specs.Sizes.{maxCategories, maxNameBytes, maxCategoryLines, maxRanges, maxReferences}
+use Rattle.paper.specs.Tables.Layout.{Tables, inRoom}
+use Rattle.paper.specs.Tables.Lent.{zeroed, padded}
+use Rattle.paper.proofs.Lists.Facts.{T→true}
+use Rattle.paper.proofs.Tables.Trip.{tables-is}
+use Rattle.char_def.specs.Lines.{Sized, noTables}
+use Rattle.char_def.specs.Parse.{roomFor, hasRoom}
+
+-- ---- refusal 1
+
+pub record Room (names categories definitions ranges references : ℕ) : Type 0 where
+  pub for-names : maxNameBytes ≤ names
+  pub for-categories : 4 * maxCategories ≤ categories
+  pub for-definitions : 6 * maxCategoryLines ≤ definitions
+  pub for-ranges : 8 * maxRanges ≤ ranges
+  pub for-references : 2 * maxReferences ≤ references
+
+false-is : (b : Bool) → (T b → ⊥) → false ≡ b
+false-is true f = absurd (f tt)
+false-is false f = refl
+
+module _ (a b c d e : ℕ) where
+  room-says : T (roomFor a b c d e) → Room a b c d e
+  unfolding roomFor
+  room-says t =
+      let x = and-yes (leb maxNameBytes a) _ t in
+      let y = and-yes (leb (4 * maxCategories) b) _ (x .1) in
+      let z = and-yes (leb (6 * maxCategoryLines) c) _ (y .1) in
+      let w = and-yes (leb (8 * maxRanges) d) (leb (2 * maxReferences) e) (z .1) in
+      record {
+        for-names = leb-yes (x .0);
+        for-categories = leb-yes (y .0);
+        for-definitions = leb-yes (z .0);
+        for-ranges = leb-yes (w .0);
+        for-references = leb-yes (w .1);
+      }
+
+  pub no-room : (Room a b c d e → ⊥) → false ≡ roomFor a b c d e
+  no-room f = false-is (roomFor a b c d e) (λ t. f (room-says t))
+
+  pub has-room : Room a b c d e → true ≡ roomFor a b c d e
+  unfolding roomFor
+  has-room h =
+      sym (T→true _
+      (yes-and (leb maxNameBytes a) _ (yes-leb (h .for-names))
+      (yes-and (leb (4 * maxCategories) b) _ (yes-leb (h .for-categories))
+      (yes-and (leb (6 * maxCategoryLines) c) _ (yes-leb (h .for-definitions))
+      (yes-and (leb (8 * maxRanges) d) (leb (2 * maxReferences) e) (yes-leb (h .for-ranges)) (yes-leb (h .for-references)))))))
+
+  pub room-is : true ≡ roomFor a b c d e → Room a b c d e
+  room-is h = room-says (subst T h tt)
+
+-- the test in the code is of its opposite
+not-true : (b : Bool) → not b ≡ true → false ≡ b
+not-true true e = e
+not-true false e = refl
+
+not-false : (b : Bool) → not b ≡ false → true ≡ b
+not-false true e = refl
+not-false false e = e
+
+abbrev pub RoomIn : Tables → Type 0
+RoomIn t = Room (length (t .names)) (length (t .categories)) (length (t .definitions)) (length (t .ranges)) (length (t .references))
+
+module _ (t : Tables) {x : Bool} (h : x ≡ hasRoom t) where
+  pub lacking : not x ≡ true → false ≡ hasRoom t
+  lacking n = not-true x n ∙ h
+
+  pub having : not x ≡ false → true ≡ hasRoom t
+  having n = not-false x n ∙ h
+
+  pub roomy : not x ≡ false → RoomIn t
+  roomy n = room-is _ _ _ _ _ (having n)
+
+-- ---- parts of the sizes
+
+pub part-long : (n : ℕ) (l : List ℕ) → n ≤ length l → n ≡ length (take n l)
+part-long n l h = sym (length-take-le n l h)
+
+pub parts-sized : (t : Tables) → RoomIn t
+    → Sized (record {
+      names = take maxNameBytes (t .names);
+      categories = take (4 * maxCategories) (t .categories);
+      definitions = take (6 * maxCategoryLines) (t .definitions);
+      ranges = take (8 * maxRanges) (t .ranges);
+      references = take (2 * maxReferences) (t .references);
+    })
+parts-sized t h =
+    record {
+      names = length-take-le maxNameBytes (t .names) (h .for-names);
+      categories = length-take-le (4 * maxCategories) (t .categories) (h .for-categories);
+      definitions = length-take-le (6 * maxCategoryLines) (t .definitions) (h .for-definitions);
+      ranges = length-take-le (8 * maxRanges) (t .ranges) (h .for-ranges);
+      references = length-take-le (2 * maxReferences) (t .references) (h .for-references);
+    }
+
+-- ---- zero in every place
+
+zero-padded : (n : ℕ) (l : List ℕ) → length l ≡ n → zeroed n l ≡ padded n []
+unfolding zeroed padded
+zero-padded n l e =
+    let h : n ≤ length l = omega arith in
+    let g : length l ≤ n = omega arith in
+    let k : n ≡ n - 0 = omega arith in
+    rw (le-leb n (length l) h)
+    (ap (λ x. replicate n 0 ++ x) (drop-of-length-le l g) ∙ append-nil (replicate n 0) ∙ ap (λ m. replicate m 0) k)
+
+pub all-zero : (t : Tables) → Sized t → (a b c d e : List ℕ)
+    → a ≡ zeroed maxNameBytes (t .names) → b ≡ zeroed (4 * maxCategories) (t .categories) → c ≡ zeroed (6 * maxCategoryLines) (t .definitions)
+    → d ≡ zeroed (8 * maxRanges) (t .ranges) → e ≡ zeroed (2 * maxReferences) (t .references)
+    → record { names = a; categories = b; definitions = c; ranges = d; references = e } ≡ inRoom noTables
+unfolding inRoom noTables
+all-zero t z a b c d e p q r s u =
+    tables-is (inRoom noTables) a b c d e (p ∙ zero-padded maxNameBytes _ (z .names)) (q ∙ zero-padded (4 * maxCategories) _ (z .categories))
+    (r ∙ zero-padded (6 * maxCategoryLines) _ (z .definitions)) (s ∙ zero-padded (8 * maxRanges) _ (z .ranges))
+    (u ∙ zero-padded (2 * maxReferences) _ (z .references))

@@ -1,0 +1,539 @@
+// Reads char.def: "Lines", parse. The text's lines are entered one after another into five lent tables.
+use line::CategoryLine;
+use line::Line;
+use line::LineAnswer;
+use line::RangeLine;
+use name::Entry;
+use paper::CATEGORY_LINES_FULL;
+use paper::Counts;
+use paper::MAX_CATEGORIES;
+use paper::MAX_CATEGORY_LINES;
+use paper::MAX_NAME_BYTES;
+use paper::MAX_RANGES;
+use paper::MAX_REFERENCES;
+use paper::MAX_TEXT_BYTES;
+use paper::RANGES_FULL;
+use paper::REFERENCES_FULL;
+use paper::ROOM_SHORT;
+use paper::TEXT_ILL_FORMED;
+use paper::TEXT_LONG;
+use table::CATEGORY_BYTES;
+use table::COUNT_AT;
+use table::DEFINITION_BYTES;
+use table::FIRST_AT;
+use table::GROUP_AT;
+use table::INVOKE_AT;
+use table::RANGE_BYTES;
+use table::REFERENCE_BYTES;
+use table::UPPER_AT;
+ghost use mathlib.Core.Path.{_≡_};
+ghost use mathlib.Core.List.{List, [], _∷_, _++_};
+ghost use Prim.Native.Nat.{ℕ, _+_, _*_, _-_, _/_, _%_, _≤_, _<_};
+ghost use lib.ListN.{length, take, drop, replicate};
+ghost use Rattle.paper.specs.Sizes.{maxTextBytes};
+ghost use Rattle.paper.specs.Lists.{until};
+ghost use Rattle.paper.specs.CharDef.Line.{category, range};
+ghost use Rattle.paper.specs.CharDef.Reading.{isLF};
+ghost use Rattle.paper.specs.Computed.ReadText.{nothingRead};
+ghost use Rattle.paper.specs.Pack.Fields.{flag};
+ghost use Rattle.paper.specs.Tables.Layout.{definitionBytes, slotBytes, inRoom};
+ghost use Rattle.paper.specs.Tables.Lent.{patch};
+ghost use Rattle.line.specs.Marks.{lineBytes};
+ghost use Rattle.line.specs.Answer.{Inside};
+ghost use Rattle.char_def.specs.Steps.{long, wordsOf, Ready, EntersAll, Working, Stepped, enterBytes, enterFoundBytes, Held};
+ghost use Rattle.char_def.specs.Lines.{readAll, Walked, Sized, noTables, TablesFilled, LinesRead};
+ghost use Rattle.char_def.specs.Parse.{roomFor, Parsed};
+
+const LF: u8 = b'\n';
+
+const CATEGORIES_SIZE: usize = MAX_CATEGORIES * CATEGORY_BYTES;
+
+const DEFINITIONS_SIZE: usize = MAX_CATEGORY_LINES * DEFINITION_BYTES;
+
+const RANGES_SIZE: usize = MAX_RANGES * RANGE_BYTES;
+
+const REFERENCES_SIZE: usize = MAX_REFERENCES * REFERENCE_BYTES;
+
+pub struct Refusal {
+    pub number: u32,
+    pub place: usize,
+}
+
+pub enum Outcome {
+    Accepted(Counts),
+    Refused(Refusal),
+}
+
+pub struct Names {
+    pub count: usize,
+    pub bytes: usize,
+    pub next: usize,
+}
+
+pub enum NamesStep {
+    Done(Names),
+    NoName(u32),
+}
+
+pub enum LineStep {
+    Next(Counts),
+    Stop(u32),
+}
+
+pub enum Walk {
+    Ended(Counts),
+    Stopped(Refusal),
+}
+
+fn flag_of(b: bool) -> u8
+    ensures { λ r. ⌜ r ≡ flag b ⌝ }
+{
+    if b {
+        return 1;
+    }
+    0
+}
+
+// One more entry of the definition table.
+fn append_definition(definitions: &mut [u8], n: usize, invoke: bool, group: bool, length: u32)
+    requires { ⌜ 6 * n + 6 ≤ long (now definitions) ⌝ }
+    ensures { λ _. ⌜ now (definitions .exit) ≡ patch (6 * n) (definitionBytes (record { invoke = invoke; group = group; len = length })) (now (definitions .entry)) ⌝ }
+{
+    let at = DEFINITION_BYTES * n;
+    table::put_u32(definitions, at, length);
+    definitions[at + INVOKE_AT] = flag_of(invoke);
+    definitions[at + GROUP_AT] = flag_of(group);
+}
+
+// One more entry of the range table.
+fn append_range(ranges: &mut [u8], n: usize, lower: u16, upper: u16, first: u16, count: u16)
+    requires { ⌜ 8 * n + 8 ≤ length (now ranges) ⌝ }
+    ensures { λ _. ⌜ now (ranges .exit) ≡ patch (8 * n) (slotBytes (record { lower = lower; upper = upper; first = first; count = count })) (now (ranges .entry)) ⌝ }
+{
+    let at = RANGE_BYTES * n;
+    table::put_u16(ranges, at, lower);
+    table::put_u16(ranges, at + UPPER_AT, upper);
+    table::put_u16(ranges, at + FIRST_AT, first);
+    table::put_u16(ranges, at + COUNT_AT, count);
+}
+
+// How many words stand from `start` to `end`.
+fn count_words(text: &[u8], start: usize, end: usize) -> usize
+    requires { ⌜ (start ≤ end) × (end ≤ length (now text)) ⌝ }
+    ensures { λ r. ⌜ r ≡ length (wordsOf (drop start (take end (now (text .entry))))) ⌝ }
+{
+    let mut at = start;
+    let mut n = 0;
+    while at < end {
+        let w = line::next_word(text, at, end, true);
+        let to = w.end;
+        if to <= w.start {
+            return n;
+        }
+        at = to;
+        n += 1;
+    }
+    n
+}
+
+// Interns the names that stand from `start` to `end`, and puts their numbers into the reference table from place `n` on.
+fn enter_names(
+    text: &[u8],
+    start: usize,
+    end: usize,
+    names: &mut [u8],
+    slots: &mut [u32],
+    references: &mut [u8],
+    n: usize,
+    count: usize,
+    bytes: usize,
+) -> NamesStep
+    requires { ⌜ Ready (now names) (now slots) (now references) (now text) n count bytes start end ⌝ }
+    ensures { λ r. ⌜ EntersAll (now (names .entry)) (now (slots .entry)) (now (references .entry)) n count bytes (wordsOf (drop start (take end (now (text .entry))))) (now (names .exit)) (now (slots .exit)) (now (references .exit)) r ⌝ }
+{
+    let mut at = start;
+    let mut next = n;
+    let mut many = count;
+    let mut used = bytes;
+    while at < end {
+        let w = line::next_word(text, at, end, true);
+        let from = w.start;
+        let to = w.end;
+        if to <= from {
+            return NamesStep::Done(Names {
+                count: many,
+                bytes: used,
+                next: next,
+            });
+        }
+        match name::category_id(names, slots, many, used, text, from, to) {
+            Entry::Full(k) => {
+                return NamesStep::NoName(k);
+            }
+            Entry::Number(e) => {
+                table::put_u16(references, REFERENCE_BYTES * next, e.number as u16);
+                many = e.count;
+                used = e.bytes;
+                next += 1;
+                at = to;
+            }
+        }
+    }
+    NamesStep::Done(Names {
+        count: many,
+        bytes: used,
+        next: next,
+    })
+}
+
+// A category line: 11, then its name, then its definition.
+fn enter_category(
+    text: &[u8],
+    line: CategoryLine,
+    names: &mut [u8],
+    slots: &mut [u32],
+    definitions: &mut [u8],
+    ranges: &[u8],
+    references: &[u8],
+    counts: Counts,
+) -> LineStep
+    requires { ⌜ Working (record { store = now names; slots = now slots; definitions = now definitions; ranges = now ranges; references = now references }) counts ⌝ }
+    requires { ⌜ Inside (now text) (line .name .start) (line .name .end) ⌝ }
+    ensures { λ r. ⌜ Stepped (λ x. enterBytes x (category (drop (line .name .start) (take (line .name .end) (now (text .entry)))) (line .invoke) (line .group) (line .length))) (record { store = now (names .entry); slots = now (slots .entry); definitions = now (definitions .entry); ranges = now (ranges .entry); references = now (references .entry) }) counts (record { store = now (names .exit); slots = now (slots .exit); definitions = now (definitions .exit); ranges = now (ranges .entry); references = now (references .entry) }) r ⌝ }
+{
+    let n = counts.definitions;
+    if MAX_CATEGORY_LINES <= n {
+        return LineStep::Stop(CATEGORY_LINES_FULL);
+    }
+    let name = line.name;
+    let from = name.start;
+    let to = name.end;
+    match name::category_id(
+        names,
+        slots,
+        counts.categories,
+        counts.bytes,
+        text,
+        from,
+        to,
+    ) {
+        Entry::Full(k) => LineStep::Stop(k),
+        Entry::Number(e) => {
+            append_definition(definitions, n, line.invoke, line.group, line.length);
+            LineStep::Next(Counts {
+                categories: e.count,
+                definitions: n + 1,
+                ranges: counts.ranges,
+                references: counts.references,
+                bytes: e.bytes,
+            })
+        }
+    }
+}
+
+// A range line: 9, 10, then its names, then its entry.
+fn enter_range(
+    text: &[u8],
+    line: RangeLine,
+    names: &mut [u8],
+    slots: &mut [u32],
+    definitions: &[u8],
+    ranges: &mut [u8],
+    references: &mut [u8],
+    counts: Counts,
+) -> LineStep
+    requires { ⌜ Working (record { store = now names; slots = now slots; definitions = now definitions; ranges = now ranges; references = now references }) counts ⌝ }
+    requires { ⌜ Inside (now text) (line .names .start) (line .names .end) ⌝ }
+    ensures { λ r. ⌜ Stepped (λ x. enterBytes x (range (line .lower) (line .upper) (wordsOf (drop (line .names .start) (take (line .names .end) (now (text .entry))))))) (record { store = now (names .entry); slots = now (slots .entry); definitions = now (definitions .entry); ranges = now (ranges .entry); references = now (references .entry) }) counts (record { store = now (names .exit); slots = now (slots .exit); definitions = now (definitions .entry); ranges = now (ranges .exit); references = now (references .exit) }) r ⌝ }
+{
+    let n = counts.ranges;
+    if MAX_RANGES <= n {
+        return LineStep::Stop(RANGES_FULL);
+    }
+    let part = line.names;
+    let from = part.start;
+    let to = part.end;
+    let words = count_words(text, from, to);
+    let first = counts.references;
+    if MAX_REFERENCES - first < words {
+        return LineStep::Stop(REFERENCES_FULL);
+    }
+    match enter_names(
+        text,
+        from,
+        to,
+        names,
+        slots,
+        references,
+        first,
+        counts.categories,
+        counts.bytes,
+    ) {
+        NamesStep::NoName(k) => LineStep::Stop(k),
+        NamesStep::Done(d) => {
+            append_range(
+                ranges,
+                n,
+                line.lower,
+                line.upper,
+                first as u16,
+                words as u16,
+            );
+            LineStep::Next(Counts {
+                categories: d.count,
+                definitions: counts.definitions,
+                ranges: n + 1,
+                references: d.next,
+                bytes: d.bytes,
+            })
+        }
+    }
+}
+
+// The line from `start` to `end` entered.
+fn enter_line(
+    text: &[u8],
+    start: usize,
+    end: usize,
+    names: &mut [u8],
+    slots: &mut [u32],
+    definitions: &mut [u8],
+    ranges: &mut [u8],
+    references: &mut [u8],
+    counts: Counts,
+) -> LineStep
+    requires { ⌜ Working (record { store = now names; slots = now slots; definitions = now definitions; ranges = now ranges; references = now references }) counts ⌝ }
+    requires { ⌜ Inside (now text) start end ⌝ }
+    ensures { λ r. ⌜ Stepped (λ x. enterFoundBytes x (lineBytes (drop start (take end (now (text .entry)))))) (record { store = now (names .entry); slots = now (slots .entry); definitions = now (definitions .entry); ranges = now (ranges .entry); references = now (references .entry) }) counts (record { store = now (names .exit); slots = now (slots .exit); definitions = now (definitions .exit); ranges = now (ranges .exit); references = now (references .exit) }) r ⌝ }
+{
+    match line::read_line(text, start, end) {
+        LineAnswer::Refused(k) => LineStep::Stop(k),
+        LineAnswer::Read(l) => match l {
+            Line::Blank => LineStep::Next(counts),
+            Line::Category(x) => enter_category(
+                text,
+                x,
+                names,
+                slots,
+                definitions,
+                ranges,
+                references,
+                counts,
+            ),
+            Line::Range(x) => enter_range(
+                text,
+                x,
+                names,
+                slots,
+                definitions,
+                ranges,
+                references,
+                counts,
+            ),
+        },
+    }
+}
+
+// The end of the line that begins at `start`: its LF, or the end of the text.
+fn line_end(text: &[u8], start: usize) -> usize
+    ensures { λ r. ⌜ r ≡ start + length (until isLF (drop start (now (text .entry)))) ⌝ }
+{
+    let mut at = start;
+    while at < text.len() {
+        if text[at] == LF {
+            return at;
+        }
+        at += 1;
+    }
+    at
+}
+
+// Every line entered, from the top, up to the first that is refused.
+fn walk_lines(
+    text: &[u8],
+    names: &mut [u8],
+    slots: &mut [u32],
+    definitions: &mut [u8],
+    ranges: &mut [u8],
+    references: &mut [u8],
+) -> Walk
+    requires { ⌜ length (now text) ≤ maxTextBytes ⌝ }
+    requires { ⌜ Held nothingRead (record { store = now names; slots = now slots; definitions = now definitions; ranges = now ranges; references = now references }) (record { categories = 0; definitions = 0; ranges = 0; references = 0; bytes = 0 }) ⌝ }
+    ensures { λ r. ⌜ Walked (readAll (now (text .entry))) (record { store = now (names .exit); slots = now (slots .exit); definitions = now (definitions .exit); ranges = now (ranges .exit); references = now (references .exit) }) r ⌝ }
+{
+    let mut counts = Counts {
+        categories: 0,
+        definitions: 0,
+        ranges: 0,
+        references: 0,
+        bytes: 0,
+    };
+    let mut line = 1;
+    let mut at = 0;
+    while at <= text.len() {
+        let end = line_end(text, at);
+        match enter_line(
+            text,
+            at,
+            end,
+            names,
+            slots,
+            definitions,
+            ranges,
+            references,
+            counts,
+        ) {
+            LineStep::Stop(number) => {
+                return Walk::Stopped(Refusal {
+                    number: number,
+                    place: line,
+                });
+            }
+            LineStep::Next(more) => {
+                counts = more;
+                line += 1;
+                at = end + 1;
+            }
+        }
+    }
+    Walk::Ended(counts)
+}
+
+// "Readers ask for room of these full sizes."
+fn has_room(
+    names: usize,
+    categories: usize,
+    definitions: usize,
+    ranges: usize,
+    references: usize,
+) -> bool
+    ensures { λ r. ⌜ r ≡ roomFor names categories definitions ranges references ⌝ }
+{
+    if names < MAX_NAME_BYTES {
+        return false;
+    }
+    if categories < CATEGORIES_SIZE {
+        return false;
+    }
+    if definitions < DEFINITIONS_SIZE {
+        return false;
+    }
+    if ranges < RANGES_SIZE {
+        return false;
+    }
+    if references < REFERENCES_SIZE {
+        return false;
+    }
+    true
+}
+
+// Zero in every place of tables of the sizes.
+fn zero_all(
+    names: &mut [u8],
+    categories: &mut [u8],
+    definitions: &mut [u8],
+    ranges: &mut [u8],
+    references: &mut [u8],
+)
+    requires { ⌜ Sized (record { names = now names; categories = now categories; definitions = now definitions; ranges = now ranges; references = now references }) ⌝ }
+    ensures { λ _. ⌜ record { names = now (names .exit); categories = now (categories .exit); definitions = now (definitions .exit); ranges = now (ranges .exit); references = now (references .exit) } ≡ inRoom noTables ⌝ }
+{
+    table::zero(names, MAX_NAME_BYTES);
+    table::zero(categories, CATEGORIES_SIZE);
+    table::zero(definitions, DEFINITIONS_SIZE);
+    table::zero(ranges, RANGES_SIZE);
+    table::zero(references, REFERENCES_SIZE);
+}
+
+// The lines walked over tables of the sizes that hold zero. The category table starts as an array of zero slots, filled by interning, and is
+// written out at the end.
+fn fill_tables(
+    text: &[u8],
+    names: &mut [u8],
+    categories: &mut [u8],
+    definitions: &mut [u8],
+    ranges: &mut [u8],
+    references: &mut [u8],
+) -> Walk
+    requires { ⌜ length (now text) ≤ maxTextBytes ⌝ }
+    requires { ⌜ record { names = now names; categories = now categories; definitions = now definitions; ranges = now ranges; references = now references } ≡ inRoom noTables ⌝ }
+    ensures { λ r. ⌜ TablesFilled (readAll (now (text .entry))) (record { names = now (names .exit); categories = now (categories .exit); definitions = now (definitions .exit); ranges = now (ranges .exit); references = now (references .exit) }) r ⌝ }
+{
+    let mut slots = [0u32; MAX_CATEGORIES];
+    match walk_lines(text, names, &mut slots, definitions, ranges, references) {
+        Walk::Stopped(refusal) => Walk::Stopped(refusal),
+        Walk::Ended(counts) => {
+            name::write_slots(&slots, categories);
+            Walk::Ended(counts)
+        }
+    }
+}
+
+// The lines read into tables of the sizes: the reading's tables, or zero where a line is refused.
+fn read_lines(
+    text: &[u8],
+    names: &mut [u8],
+    categories: &mut [u8],
+    definitions: &mut [u8],
+    ranges: &mut [u8],
+    references: &mut [u8],
+) -> Outcome
+    requires { ⌜ length (now text) ≤ maxTextBytes ⌝ }
+    requires { ⌜ Sized (record { names = now names; categories = now categories; definitions = now definitions; ranges = now ranges; references = now references }) ⌝ }
+    ensures { λ r. ⌜ LinesRead (readAll (now (text .entry))) (record { names = now (names .exit); categories = now (categories .exit); definitions = now (definitions .exit); ranges = now (ranges .exit); references = now (references .exit) }) r ⌝ }
+{
+    zero_all(names, categories, definitions, ranges, references);
+    match fill_tables(text, names, categories, definitions, ranges, references) {
+        Walk::Ended(counts) => Outcome::Accepted(counts),
+        Walk::Stopped(refusal) => {
+            zero_all(names, categories, definitions, ranges, references);
+            Outcome::Refused(refusal)
+        }
+    }
+}
+
+// Reads a text into lent tables. Nothing is written for 1 to 3; 4 to 13 leave zero up to the sizes; past the sizes nothing is touched.
+pub fn parse(
+    text: &[u8],
+    names: &mut [u8],
+    categories: &mut [u8],
+    definitions: &mut [u8],
+    ranges: &mut [u8],
+    references: &mut [u8],
+) -> Outcome
+    ensures { λ r. ⌜ Parsed (now (text .entry)) (record { names = now (names .entry); categories = now (categories .entry); definitions = now (definitions .entry); ranges = now (ranges .entry); references = now (references .entry) }) (record { names = now (names .exit); categories = now (categories .exit); definitions = now (definitions .exit); ranges = now (ranges .exit); references = now (references .exit) }) r ⌝ }
+{
+    if !has_room(
+        names.len(),
+        categories.len(),
+        definitions.len(),
+        ranges.len(),
+        references.len(),
+    ) {
+        return Outcome::Refused(Refusal {
+            number: ROOM_SHORT,
+            place: 0,
+        });
+    }
+    if MAX_TEXT_BYTES < text.len() {
+        return Outcome::Refused(Refusal {
+            number: TEXT_LONG,
+            place: 0,
+        });
+    }
+    let prefix = text::valid_prefix(text);
+    if prefix < text.len() {
+        return Outcome::Refused(Refusal {
+            number: TEXT_ILL_FORMED,
+            place: prefix,
+        });
+    }
+    read_lines(
+        text,
+        &mut names[..MAX_NAME_BYTES],
+        &mut categories[..CATEGORIES_SIZE],
+        &mut definitions[..DEFINITIONS_SIZE],
+        &mut ranges[..RANGES_SIZE],
+        &mut references[..REFERENCES_SIZE],
+    )
+}
