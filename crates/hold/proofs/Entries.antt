@@ -8,9 +8,8 @@ use mathlib.Core.Path.{_≡_, refl, sym, ap, _∙_}
 use mathlib.Core.Bool.{Bool, true, false, _&&_, and-assoc}
 use mathlib.Core.List.{List, [], _∷_, map}
 use lib.Dec.{T, leb, ltb, eqb}
-use lib.ListN.{length, getD}
+use lib.ListN.{length, drop, getD}
 use lib.Seq.{getD-take, getD-drop}
-use lib.ListN.{drop}
 use mir.Facts.{and-yes, yes-and, leb-yes, yes-leb, ltb-yes, yes-ltb, eqb-yes, yes-eqb}
 use Rattle.paper.specs.Lists.{all}
 use Rattle.paper.specs.Computed.HandedIn.{nameSlotsStand, slotsStand, flagged}

@@ -12,7 +12,7 @@ use lib.Seq.{drop-cons, getD-set-same, getD-set-other}
 use Rattle.paper.specs.Lists.{same}
 use Rattle.paper.proofs.Lists.Seen.{same-eq}
 use Rattle.hold.specs.Placed.{nameOf}
-use Rattle.hold.specs.Mark.{markAfter, mark, Marked}
+use Rattle.hold.specs.Mark.{marks, factor, markAfter, mark, Marked}
 use Rattle.hold.proofs.Tests.{untrue}
 
 -- ---- one mark
@@ -22,11 +22,11 @@ unfolding mark
 mark-begins l = refl
 
 module _ (l : List ℕ) (i h v : ℕ) (inv : markAfter h (drop i l) ≡ v) where
-  pub mark-goes : (b : ℕ) → i < length l → b ≡ getD l i 0 → markAfter ((h * 16777619 + b) % 4294967296) (drop (i + 1) l) ≡ v
+  pub mark-goes : (b : ℕ) → i < length l → b ≡ getD l i 0 → markAfter ((h * factor + b) % marks) (drop (i + 1) l) ≡ v
   unfolding markAfter
   mark-goes b lt e =
-      ap (λ k. markAfter ((h * 16777619 + b) % 4294967296) (drop k l)) (add-one i)
-      ∙ ap (λ x. markAfter ((h * 16777619 + x) % 4294967296) (drop (suc i) l)) e
+      ap (λ k. markAfter ((h * factor + b) % marks) (drop k l)) (add-one i)
+      ∙ ap (λ x. markAfter ((h * factor + x) % marks) (drop (suc i) l)) e
       ∙ ap (markAfter h) (sym (drop-cons l i 0 lt)) ∙ inv
 
   pub mark-ends : length l ≤ i → h ≡ v
@@ -35,12 +35,12 @@ module _ (l : List ℕ) (i h v : ℕ) (inv : markAfter h (drop i l) ≡ v) where
 
 -- ---- a table of marks
 
-pub marked-more : (n : ℕ) (categories names marks : List ℕ) (m : ℕ) → n < length marks → Marked n categories names marks
-    → m ≡ mark (nameOf n categories names) → Marked (n + 1) categories names (set marks n m)
-marked-more n categories names marks m lt before e i h =
+pub marked-more : (n : ℕ) (categories names l : List ℕ) (m : ℕ) → n < length l → Marked n categories names l
+    → m ≡ mark (nameOf n categories names) → Marked (n + 1) categories names (set l n m)
+marked-more n categories names l m lt before e i h =
     elim (ℕ-discrete i n) [
-      | yes d ↦ ap (λ k. getD (set marks n m) k 0) d ∙ getD-set-same marks n m 0 lt ∙ e ∙ ap (λ k. mark (nameOf k categories names)) (sym d)
-      | no d ↦ getD-set-other marks n i m 0 d ∙ before i (omega arith)
+      | yes d ↦ ap (λ k. getD (set l n m) k 0) d ∙ getD-set-same l n m 0 lt ∙ e ∙ ap (λ k. mark (nameOf k categories names)) (sym d)
+      | no d ↦ getD-set-other l n i m 0 d ∙ before i (omega arith)
     ]
 
 -- ---- a filter

@@ -11,6 +11,7 @@ use Rattle.paper.specs.Tables.Layout.{nameSlotOf, pieces}
 use Rattle.paper.proofs.Tables.Laws.{left}
 use Rattle.hold.specs.Placed.{placed, nameOf, placedNames}
 use Rattle.hold.proofs.Placed.{placed-snoc}
+use Rattle.hold.proofs.Tests.{passed, clash}
 use Rattle.hold.proofs.Turn.{begins, fails, goes, ends}
 
 -- ---- what stands before, in any order
@@ -30,33 +31,33 @@ any-snoc p (y ∷ xs) x =
 pub compared : (r : Bool) (s t x y : List ℕ) → r ≡ same s t → s ≡ x → t ≡ y → same x y ≡ r
 compared r s t x y e p q = sym (ap₂ same p q) ∙ sym e
 
--- ---- the names before one
+-- ---- the names before name n
 
-module _ (names l x : List ℕ) (n : ℕ) where
+not-or : (a b : Bool) → not (a || b) ≡ (not a && not b)
+not-or true b = refl
+not-or false b = refl
+
+module _ (names l : List ℕ) (n : ℕ) where
   abbrev pub newTest : ℕ → List (List ℕ) → Bool
-  newTest s ps = not (any (same x) (map (placed names) (map nameSlotOf ps)))
+  newTest s ps = not (any (same (nameOf n l names)) (map (placed names) (map nameSlotOf ps)))
 
   newOne : ℕ → List ℕ → Bool
-  newOne s p = not (same x (placed names (nameSlotOf p)))
-
-  not-or : (a b : Bool) → not (a || b) ≡ (not a && not b)
-  not-or true b = refl
-  not-or false b = refl
+  newOne s p = not (same (nameOf n l names) (placed names (nameSlotOf p)))
 
   new-more : (s : ℕ) (p : List ℕ) (ps : List (List ℕ)) → newTest s (p ∷ ps) ≡ (newOne s p && newTest s ps)
   unfolding newOne
-  new-more s p ps = not-or (same x (placed names (nameSlotOf p))) _
+  new-more s p ps = not-or (same (nameOf n l names) (placed names (nameSlotOf p))) _
 
-  pub new-begins : newTest 0 (left 4 n 0 l) ≡ not (any (same x) (placedNames n l names))
+  pub new-begins : newTest 0 (left 4 n 0 l) ≡ not (any (same (nameOf n l names)) (placedNames n l names))
   unfolding placedNames
   new-begins = begins 4 newTest newOne (λ s p. s) new-more l n 0
 
   module _ (i : ℕ) (v : Bool) (inv : newTest 0 (left 4 n i l) ≡ v) where
-    pub new-fails : i < n → same x (nameOf i l names) ≡ true → false ≡ v
+    pub new-fails : i < n → same (nameOf n l names) (nameOf i l names) ≡ true → false ≡ v
     unfolding newOne nameOf
     new-fails lt e = fails 4 newTest newOne (λ s p. s) new-more l n i 0 v inv lt (λ t. rw e at t)
 
-    pub new-goes : i < n → same x (nameOf i l names) ≡ false → newTest 0 (left 4 n (i + 1) l) ≡ v
+    pub new-goes : i < n → same (nameOf n l names) (nameOf i l names) ≡ false → newTest 0 (left 4 n (i + 1) l) ≡ v
     unfolding newOne nameOf
     new-goes lt e = goes 4 newTest newOne (λ s p. s) new-more l n i 0 v inv lt (rw e tt)
 
@@ -89,14 +90,14 @@ module _ (names l : List ℕ) (n : ℕ) where
     unfolding onceOne nameOf
     once-fails lt h =
         fails 4 onceTest onceOne onceNext once-more l n i (placedNames i l names) v inv lt
-        (λ t. Rattle.hold.proofs.Tests.clash b _ e h t)
+        (clash b _ e h)
 
     pub once-goes : i < n → not b ≡ false → onceTest (placedNames (i + 1) l names) (left 4 n (i + 1) l) ≡ v
     unfolding onceOne nameOf
     once-goes lt h =
         once-alike (map (placed names) (map nameSlotOf (left 4 n (i + 1) l))) (placedNames (i + 1) l names) (nameOf i l names ∷ placedNames i l names)
         (λ x. ap (any (same x)) (placed-snoc names l i) ∙ sym (any-snoc (same x) (placedNames i l names) (nameOf i l names)))
-        ∙ goes 4 onceTest onceOne onceNext once-more l n i (placedNames i l names) v inv lt (Rattle.hold.proofs.Tests.passed b _ e h)
+        ∙ goes 4 onceTest onceOne onceNext once-more l n i (placedNames i l names) v inv lt (passed b _ e h)
 
   pub once-ends : (i : ℕ) (v : Bool) → onceTest (placedNames i l names) (left 4 n i l) ≡ v → n ≤ i → true ≡ v
   once-ends i v inv h = ends 4 onceTest onceOne onceNext once-more l n i (placedNames i l names) v inv h

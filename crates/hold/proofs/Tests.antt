@@ -1,7 +1,7 @@
 -- What the answer of a test that was called says of the definition that it promises.
 -- Assumes nothing.
 use mathlib.Core.Path.{_≡_, sym, _∙_}
-use mathlib.Core.Bool.{Bool, true, false, not}
+use mathlib.Core.Bool.{Bool, true, false, not, false≢true}
 use borrow.Author.Tests.{not-true, not-false}
 use lib.Dec.{T}
 use mir.Facts.{not-T}
@@ -17,7 +17,4 @@ pub passed : (r b : Bool) → r ≡ b → not r ≡ false → T b
 passed r b e h = true→T b (sym e ∙ not-false r h)
 
 pub clash : (r b : Bool) → r ≡ b → not r ≡ true → T b → ⊥
-clash r b e h t = go r e h
-  where
-    go : (r : Bool) → r ≡ b → not r ≡ true → ⊥
-    go r e h = let z : false ≡ true = sym (not-true r h) ∙ e ∙ T→true b t in mathlib.Core.Bool.false≢true z
+clash r b e h t = false≢true (sym (not-true r h) ∙ e ∙ T→true b t)

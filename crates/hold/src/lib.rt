@@ -39,7 +39,7 @@ const BYTE_ORDER_MARK: u16 = 0xFEFF;
 
 const NOT_A_CHARACTER: u16 = 0xFFFE;
 
-// Marks are numbers of 32 bits. The factor is that of Fowler, Noll and Vo.
+// As specs/Mark.antt has them.
 const MARKS: u64 = 4294967296;
 
 const MARK_FACTOR: u64 = 16777619;
@@ -155,14 +155,14 @@ fn ranges_stand(ranges: &[u8], n: usize, total: usize) -> bool
     requires { ⌜ 8 * n ≤ length (now ranges) ⌝ }
     ensures { λ r. ⌜ r ≡ slotsStand total 0 (map slotOf (pieces 8 n (now (ranges .entry)))) ⌝ }
 {
-    let mut at = 0;
+    let mut sum = 0;
     let mut i = 0;
     while i < n {
         let lower = table::get_u16(ranges, RANGE_BYTES * i);
         let upper = table::get_u16(ranges, RANGE_BYTES * i + UPPER_AT);
         let first = table::get_u16(ranges, RANGE_BYTES * i + FIRST_AT) as usize;
         let count = table::get_u16(ranges, RANGE_BYTES * i + COUNT_AT) as usize;
-        if first != at {
+        if first != sum {
             return false;
         }
         if !is_bound(lower) {
@@ -171,13 +171,13 @@ fn ranges_stand(ranges: &[u8], n: usize, total: usize) -> bool
         if !is_bound(upper) {
             return false;
         }
-        if total - at < count {
+        if total - sum < count {
             return false;
         }
-        at += count;
+        sum += count;
         i += 1;
     }
-    at == total
+    sum == total
 }
 
 // Every category number is known.
@@ -249,6 +249,7 @@ fn is_same<'a>(a: &'a [u8], b: &'a [u8]) -> bool
     true
 }
 
+// A byte as a number to reckon with: the call asks only that the byte is there.
 fn wide(x: u8) -> u64
     ensures { λ r. ⌜ (r ≡ x) × (r < 256) ⌝ }
 {

@@ -32,6 +32,7 @@ const U16_BYTES: usize = 2;
 
 const U32_BYTES: usize = 4;
 
+// A byte as a number to reckon with: the call asks only that the byte is there.
 fn wide16(x: u8) -> u16
     ensures { λ r. ⌜ (r ≡ x) × (r < 256) ⌝ }
 {

@@ -1,20 +1,20 @@
 -- Encodings at the front of bytes: the paper's decoder finds the one that stands there, no two different ones stand at one place, and
 -- what `next_char` promises has one answer.
 -- Assumes nothing.
-use Prim.Native.Nat.{ℕ, zero, suc, _+_, _-_, _/_, _%_, _≤_, _<_, zero-le}
+use Prim.Native.Nat.{ℕ, suc, _+_, _-_, _/_, _≤_, _<_, zero-le}
 use native.Mathlib.Numerals.{add-one}
 use native.Mathlib.Omega.{arith}
 use mathlib.Core.Path.{_≡_, refl, sym, ap, _∙_, subst}
 use mathlib.Core.Logic.{_⊎_, ⊎-elim}
 use mathlib.Core.Bool.{Bool, true, false, cond}
 use mathlib.Core.List.{List, [], _∷_, _++_, append-nil}
-use lib.Dec.{T, leb}
-use lib.ListN.{length, take, drop, getD, length-append, length-take, length-drop, take-append-drop}
+use lib.Dec.{leb}
+use lib.ListN.{length, take, drop, getD, length-append, length-drop, take-append-drop}
 use lib.Seq.{take-append-seam, drop-cons}
 use mir.Facts.{yes-and}
 use borrow.Author.Tests.{le-leb, lt-leb, leb-true, leb-false}
 use Rattle.paper.specs.Text.Scalar.{isScalar, IsScalar, utf8Of, utf8, WellFormed}
-use Rattle.paper.specs.Computed.Decode.{First, bad, good, first, Text, broken, chars, onward, decodeFrom}
+use Rattle.paper.specs.Computed.Decode.{First, bad, good, first, broken, chars, onward, decodeFrom}
 use Rattle.paper.proofs.Text.Code.{enc-1, enc-2, enc-3, enc-4, bad-good, decode-complete, first-taken}
 use Rattle.paper.proofs.Text.Prefix.{first-shapes, prefix-longest, chars-formed}
 use Rattle.text.specs.declared.Scalar.{Scalar}
@@ -44,9 +44,11 @@ lead-4 {a} l =
     let m : 0xDF < a = omega arith in
     rw (lt-leb a 0x7F k, lt-leb a 0xDF m, lt-leb a 0xEF l)
 
+-- what the first octet tells
 record Lead (c : ℕ) (t : List ℕ) : Type 0 where
   some : 0 < length (utf8Of c)
   count : leadLength (getD (utf8Of c ++ t) 0 0) ≡ length (utf8Of c)
+  far : 0xE3 < getD (utf8Of c ++ t) 0 0 → 0x4000 ≤ c
 
 lead : (c : ℕ) (t : List ℕ) → Lead c t
 lead c t = go (leb c 0x7F) (leb c 0x7FF) (leb c 0xFFFF) refl refl refl
@@ -54,18 +56,25 @@ lead c t = go (leb c 0x7F) (leb c 0x7FF) (leb c 0xFFFF) refl refl refl
     go : (x y z : Bool) → leb c 0x7F ≡ x → leb c 0x7FF ≡ y → leb c 0xFFFF ≡ z → Lead c t
     go true y z e f g =
         let h : c ≤ 0x7F = leb-true c 0x7F e in
-        record { some = rw (enc-1 c h) (omega arith); count = rw (enc-1 c h) (lead-1 h) }
+        let q = enc-1 c h in
+        record { some = rw q (omega arith); count = rw q (lead-1 h); far = rw q (λ k. omega arith) }
     go false true z e f g =
         let l : 0x80 ≤ c = leb-false c 0x7F e in
         let h : c ≤ 0x7FF = leb-true c 0x7FF f in
-        record { some = rw (enc-2 c l h) (omega arith); count = rw (enc-2 c l h) (lead-2 {a = 0xC0 + c / 64} (omega arith) (omega arith)) }
+        let q = enc-2 c l h in
+        record { some = rw q (omega arith); count = rw q (lead-2 {a = 0xC0 + c / 64} (omega arith) (omega arith)); far = rw q (λ k. omega arith) }
     go false false true e f g =
         let l : 0x800 ≤ c = leb-false c 0x7FF f in
         let h : c ≤ 0xFFFF = leb-true c 0xFFFF g in
-        record { some = rw (enc-3 c l h) (omega arith); count = rw (enc-3 c l h) (lead-3 {a = 0xE0 + c / 4096} (omega arith) (omega arith)) }
+        let q = enc-3 c l h in
+        record { some = rw q (omega arith); count = rw q (lead-3 {a = 0xE0 + c / 4096} (omega arith) (omega arith)); far = rw q (λ k. omega arith) }
     go false false false e f g =
         let l : 0x10000 ≤ c = leb-false c 0xFFFF g in
-        record { some = rw (enc-4 c l) (omega arith); count = rw (enc-4 c l) (lead-4 {a = 0xF0 + c / 262144} (omega arith)) }
+        let q = enc-4 c l in
+        record { some = rw q (omega arith); count = rw q (lead-4 {a = 0xF0 + c / 262144} (omega arith)); far = rw q (λ k. omega arith) }
+
+pub far-char : (c : ℕ) (t : List ℕ) → 0xE3 < getD (utf8Of c ++ t) 0 0 → 0x4000 ≤ c
+far-char c t = lead c t .far
 
 pub some-octets : (c : ℕ) → 0 < length (utf8Of c)
 some-octets c = lead c [] .some

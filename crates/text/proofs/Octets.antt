@@ -11,8 +11,8 @@ use lib.ListN.{length, drop, getD, length-drop}
 use lib.Seq.{drop-cons}
 use mir.Facts.{and-yes, leb-yes}
 use borrow.Author.Tests.{le-leb, lt-leb, leb-true, leb-false, eq-eqb, ne-eqb}
-use Rattle.paper.specs.Text.Scalar.{between, In, Tail}
-use Rattle.paper.specs.Computed.Decode.{First, bad, good, lowest, highest, isTail, two, three, four, first}
+use Rattle.paper.specs.Text.Scalar.{between, In}
+use Rattle.paper.specs.Computed.Decode.{bad, good, lowest, highest, isTail, two, three, four, first}
 use Rattle.paper.proofs.Lists.Facts.{below, from-below, true→T}
 use Rattle.text.specs.Classes.{tail, lead2, lead3, lead4, leadE0, leadED, leadF0, leadF4, classOf}
 use Rattle.text.specs.Answers.{Second}
@@ -127,12 +127,9 @@ module _ {a : ℕ} (o : a < 256) where
 
 -- ---- how the decoder goes on
 
-pub first-tail : {a : ℕ} (s : List ℕ) → Tail a → first a s ≡ bad
+pub first-low : {a : ℕ} (s : List ℕ) → In 0x80 0xC1 a → first a s ≡ bad
 unfolding first
-first-tail {a} s i =
-    let h : 0x7F < a = omega arith in
-    let l : a ≤ 0xC1 = omega arith in
-    rw (lt-leb a 0x7F h, le-leb a 0xC1 l)
+first-low {a} s i = let h : 0x7F < a = omega arith in rw (lt-leb a 0x7F h, le-leb a 0xC1 (i .to))
 
 pub first-2 : {a : ℕ} (s : List ℕ) → In 0xC2 0xDF a → first a s ≡ two a s
 unfolding first

@@ -8,7 +8,7 @@ use mathlib.Core.List.{List, [], _∷_}
 use lib.ListN.{length, take, drop, getD, length-drop, drop-of-length-le}
 use lib.Seq.{drop-nil, drop-cons, drop-drop, take-all}
 use Rattle.paper.specs.Text.Scalar.{utf8Of, WellFormed, LongestPrefix}
-use Rattle.paper.specs.Computed.Decode.{First, bad, good, first, Text, broken, chars, consText, onward, decodeFrom, decode}
+use Rattle.paper.specs.Computed.Decode.{bad, good, Text, broken, chars, consText, onward, decodeFrom, decode}
 use Rattle.paper.proofs.Text.Code.{bad-good, dec-1}
 use Rattle.paper.proofs.Text.Prefix.{prefixOf, prefix-is, prefix-fits, prefix-longest, chars-formed}
 use Rattle.text.specs.declared.Scalar.{Scalar}

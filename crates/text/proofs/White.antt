@@ -1,23 +1,24 @@
 -- White_Space: Unicode's runs one by one, and its width at the front of bytes.
 -- Assumes nothing.
 use Prim.Native.Nat.{ℕ, suc, _+_, _-_, _≤_, _<_}
+use native.Mathlib.Nat.{add-zero}
 use native.Mathlib.Omega.{arith}
-use mathlib.Core.Path.{_≡_, refl, sym, ap, _∙_, subst}
+use mathlib.Core.Path.{_≡_, refl, ap, _∙_, subst}
 use mathlib.Core.Bool.{Bool, true, false, cond, _&&_, _||_}
 use mathlib.Core.List.{List, [], _∷_, _++_}
 use lib.Dec.{T, leb}
 use lib.ListN.{length, drop, getD, drop-of-length-le}
-use lib.Seq.{drop-cons}
-use borrow.Author.Tests.{leb-true, lt-leb, le-leb}
+use lib.Seq.{drop-cons, getD-drop}
+use borrow.Author.Tests.{leb-true}
 use Rattle.paper.specs.Lists.{any}
 use Rattle.paper.specs.Text.Scalar.{between, In, Tail, IsScalar, utf8Of, whites, isWhite}
-use Rattle.paper.specs.Computed.Decode.{First, bad, good, first}
+use Rattle.paper.specs.Computed.Decode.{First, bad, good}
 use Rattle.paper.proofs.Lists.Facts.{T→true, below, from-below}
 use Rattle.paper.proofs.Text.Code.{dec-1}
 use Rattle.text.specs.declared.Scalar.{Scalar}
 use Rattle.text.specs.Answers.{Stands, headOf, whiteBy, whiteWidth}
-use Rattle.text.proofs.Octets.{first-tail}
-use Rattle.text.proofs.Chars.{some-octets, head-char, char-head}
+use Rattle.text.proofs.Octets.{first-low}
+use Rattle.text.proofs.Chars.{some-octets, far-char, found, head-char, char-head}
 
 -- n characters from lo on are White_Space
 pub run : (lo n : ℕ) → T (below (λ k. isWhite (lo + k)) n) → {c : ℕ} → lo ≤ c → c < lo + n → isWhite c ≡ true
@@ -62,7 +63,56 @@ width-char c t i =
 
 -- no White_Space begins inside a character
 pub width-tail : (b : ℕ) (t : List ℕ) → Tail b → whiteWidth (b ∷ t) ≡ 0
-width-tail b t i = width-by (b ∷ t) bad (first-tail t i)
+width-tail b t i = width-by (b ∷ t) bad (first-low t (record { from = i .from; to = omega arith }))
+
+-- no White_Space from U+4000 up
+far : (c : ℕ) → 0x4000 ≤ c → isWhite c ≡ false
+far c h =
+    no-white c (
+      (λ i. omega arith),
+      (
+        (λ i. omega arith),
+        (
+          (λ i. omega arith),
+          (
+            (λ i. omega arith),
+            (
+              (λ i. omega arith),
+              (
+                (λ i. omega arith),
+                (
+                  (λ i. omega arith),
+                  (
+                    (λ i. omega arith),
+                    (
+                      (λ i. omega arith),
+                      (
+                        (λ i. omega arith),
+                        (
+                          (λ i. omega arith),
+                          tt,
+                        ),
+                      ),
+                    ),
+                  ),
+                ),
+              ),
+            ),
+          ),
+        ),
+      ),
+    )
+
+-- what begins above E3 is none, and what begins from 80 up and below C2 is no character
+pub width-far : (m : List ℕ) → 0xE3 < getD m 0 0 → whiteWidth m ≡ 0
+width-far m h = go (headOf m) refl
+  where
+    go : (f : First) → headOf m ≡ f → whiteWidth m ≡ 0
+    go bad e = width-by m bad e
+    go (good c extra) e =
+        let w = found m c extra e .split in
+        let k : 0x4000 ≤ c = far-char c (drop (suc extra) m) (subst (λ l. 0xE3 < getD l 0 0) w h) in
+        width-by m (good c extra) e ∙ ap (λ x. cond x (suc extra) 0) (far c k)
 
 module _ (s : List ℕ) (at : ℕ) where
   pub width-stands : (r : Scalar) → Stands s at r → whiteWidth (drop at s) ≡ cond (isWhite (r .value)) (r .next - at) 0
@@ -76,3 +126,9 @@ module _ (s : List ℕ) (at : ℕ) where
 
   pub width-end : length s ≤ at → whiteWidth (drop at s) ≡ 0
   width-end h = ap whiteWidth (drop-of-length-le s h) ∙ width-by [] bad refl
+
+  pub width-low : at < length s → In 0x80 0xC1 (getD s at 0) → whiteWidth (drop at s) ≡ 0
+  width-low h i = ap whiteWidth (drop-cons s at 0 h) ∙ width-by _ bad (first-low (drop (suc at) s) i)
+
+  pub width-high : 0xE3 < getD s at 0 → whiteWidth (drop at s) ≡ 0
+  width-high h = width-far (drop at s) (rw (getD-drop at s 0 0, add-zero) h)

@@ -230,6 +230,13 @@ pub fn white_width(s: &[u8], at: usize) -> usize
         }
         return 0;
     }
+    // What begins below C2 or above E3 is no White_Space: no character, or one from U+4000 up.
+    if a < 0xC2 {
+        return 0;
+    }
+    if 0xE3 < a {
+        return 0;
+    }
     let Next::Char(c) = next_char(s, at) else {
         return 0;
     };

@@ -41,7 +41,9 @@ shared-slice-read-if2 : tie.Need-shared-slice-read-if2 Inv-loop μ-loop
 shared-slice-read-if2 c = omega arith
 
 returns-2 : tie.Need-returns-2 Inv-loop μ-loop
-returns-2 c = flags-fail _ _ _ _ (c .before .before .before .before .before .loop .inv .1) (c .before .before .before .before .loop-test .taken) (λ h. omega arith)
+returns-2 c =
+    flags-fail _ _ _ _ (c .before .before .before .before .before .loop .inv .1) (c .before .before .before .before .loop-test .taken)
+    (λ h. omega arith)
 
 add-i : tie.Need-add-i Inv-loop μ-loop
 add-i c = omega arith
@@ -50,7 +52,7 @@ loop-less : tie.Need-loop-less Inv-loop μ-loop
 loop-less c = omega arith
 
 loop-again : tie.Need-loop-again Inv-loop μ-loop
-loop-again c = (omega arith, flags-go _ _ _ _ (c .before .before .before .before .before .loop .inv .1) (c .before .before .before .before .loop-test .taken) (record { invoke = (c .before .before .if1 .left); group = (c .if2 .left) }))
+loop-again c = (omega arith, flags-go _ _ _ _ (c .before .before .before .before .before .loop .inv .1) (c .before .before .before .before .loop-test .taken) (record { invoke = c .before .before .if1 .left; group = c .if2 .left }))
 
 returns-3 : tie.Need-returns-3 Inv-loop μ-loop
 returns-3 c = all-ends 6 flagged _ _ _ _ (c .before .loop .inv .1) (c .loop-test .left)

@@ -15,14 +15,14 @@ use Rattle.hold.proofs.is_new.Tie as tie
 abbrev Inv-loop : tie.InvT-loop
 Inv-loop names categories marks i name own k₀ k =
     (k ≤ i)
-    × (newTest names categories (nameOf i categories names) i 0 (left 4 i k categories)
+    × (newTest names categories i 0 (left 4 i k categories)
     ≡ not (any (same (nameOf i categories names)) (placedNames i categories names)))
 
 abbrev μ-loop : tie.MeasureT-loop
 μ-loop names categories marks i name own k₀ k = i - k
 
 name-at-requires : tie.Need-name-at-requires Inv-loop μ-loop
-name-at-requires c κs = (c .before .before .before .pre .0 .0)
+name-at-requires c κs = c .before .before .before .pre .0 .0
 
 mul-own : tie.Need-mul-own Inv-loop μ-loop
 mul-own c = omega arith
@@ -31,7 +31,7 @@ shared-slice-read-own : tie.Need-shared-slice-read-own Inv-loop μ-loop
 shared-slice-read-own c = omega arith
 
 loop-holds : tie.Need-loop-holds Inv-loop μ-loop
-loop-holds c = (omega arith, let a = (c .before .before .before .before .before .args) in new-begins (a .names .now) (a .categories .now) (nameOf (a .i) (a .categories .now) (a .names .now)) (a .i))
+loop-holds c = (omega arith, let a = c .before .before .before .before .before .args in new-begins (a .names .now) (a .categories .now) (a .i))
 
 mul-if1 : tie.Need-mul-if1 Inv-loop μ-loop
 mul-if1 c = omega arith
@@ -47,9 +47,10 @@ is-same-requires c κs = omega arith
 
 returns : tie.Need-returns Inv-loop μ-loop
 returns c =
-    let a = (c .before .before .before .before .before .before .before .before .before .before .before .before .args) in
-    new-fails (a .names .now) (a .categories .now) (nameOf (a .i) (a .categories .now) (a .names .now)) (a .i) (c .before .before .before .before .before .before .loop .k) _ (c .before .before .before .before .before .before .loop .inv .1) (c .before .before .before .before .before .loop-test .taken)
-    (compared _ _ _ _ _ (c .before .is-same .ensures) (c .before .before .before .before .before .before .before .before .name-at .ensures) (c .before .before .name-at2 .ensures) ∙ (c .if2 .taken))
+    let a = c .before .before .before .before .before .before .before .before .before .before .before .before .args in
+    new-fails (a .names .now) (a .categories .now) (a .i) (c .before .before .before .before .before .before .loop .k) _
+    (c .before .before .before .before .before .before .loop .inv .1) (c .before .before .before .before .before .loop-test .taken)
+    (compared _ _ _ _ _ (c .before .is-same .ensures) (c .before .before .before .before .before .before .before .before .name-at .ensures) (c .before .before .name-at2 .ensures) ∙ c .if2 .taken)
 
 add-k : tie.Need-add-k Inv-loop μ-loop
 add-k c = omega arith
@@ -59,10 +60,11 @@ loop-less c = omega arith
 
 loop-again : tie.Need-loop-again Inv-loop μ-loop
 loop-again c =
-    let a = (c .before .before .before .before .before .before .before .before .before .before .before .before .args) in (
+    let a = c .before .before .before .before .before .before .before .before .before .before .before .before .args in (
       omega arith,
-      new-goes (a .names .now) (a .categories .now) (nameOf (a .i) (a .categories .now) (a .names .now)) (a .i) (c .before .before .before .before .before .before .loop .k) _ (c .before .before .before .before .before .before .loop .inv .1) (c .before .before .before .before .before .loop-test .taken)
-          (compared _ _ _ _ _ (c .before .is-same .ensures) (c .before .before .before .before .before .before .before .before .name-at .ensures) (c .before .before .name-at2 .ensures) ∙ (c .if2 .left)),
+      new-goes (a .names .now) (a .categories .now) (a .i) (c .before .before .before .before .before .before .loop .k) _
+          (c .before .before .before .before .before .before .loop .inv .1) (c .before .before .before .before .before .loop-test .taken)
+          (compared _ _ _ _ _ (c .before .is-same .ensures) (c .before .before .before .before .before .before .before .before .name-at .ensures) (c .before .before .name-at2 .ensures) ∙ c .if2 .left),
     )
 
 add-k-2 : tie.Need-add-k-2 Inv-loop μ-loop
@@ -73,17 +75,18 @@ loop-less-2 c = omega arith
 
 loop-again-2 : tie.Need-loop-again-2 Inv-loop μ-loop
 loop-again-2 c =
-    let a = (c .before .before .before .before .before .before .before .before .before .args) in
-    let m = (c .before .before .before .before .before .before .before .before .before .pre .1) in (
+    let a = c .before .before .before .before .before .before .before .before .before .args in
+    let m = c .before .before .before .before .before .before .before .before .before .pre .1 in (
       omega arith,
-      new-goes (a .names .now) (a .categories .now) (nameOf (a .i) (a .categories .now) (a .names .now)) (a .i) (c .before .before .before .loop .k) _ (c .before .before .before .loop .inv .1) (c .before .before .loop-test .taken)
-          (marks-apart _ _ (λ e. (c .if1 .left) (m (c .before .before .before .loop .k) (omega arith) ∙ e ∙ sym (m (a .i) (omega arith))))),
+      new-goes (a .names .now) (a .categories .now) (a .i) (c .before .before .before .loop .k) _ (c .before .before .before .loop .inv .1)
+          (c .before .before .loop-test .taken)
+          (marks-apart _ _ (λ e. c .if1 .left (m (c .before .before .before .loop .k) (omega arith) ∙ e ∙ sym (m (a .i) (omega arith))))),
     )
 
 returns-2 : tie.Need-returns-2 Inv-loop μ-loop
 returns-2 c =
-    let a = (c .before .before .before .before .before .before .before .args) in
-    new-ends (a .names .now) (a .categories .now) (nameOf (a .i) (a .categories .now) (a .names .now)) (a .i) (c .before .loop .k) _ (c .before .loop .inv .1) (c .loop-test .left)
+    let a = c .before .before .before .before .before .before .before .args in
+    new-ends (a .names .now) (a .categories .now) (a .i) (c .before .loop .k) _ (c .before .loop .inv .1) (c .loop-test .left)
 
 pub is-new-spec : {M : Type 1} → statement M
 is-new-spec =

@@ -27,7 +27,10 @@ shared-slice-read-if2-2 : tie.Need-shared-slice-read-if2-2 Inv-loop μ-loop
 shared-slice-read-if2-2 c = omega arith
 
 returns-2 : tie.Need-returns-2 Inv-loop μ-loop
-returns-2 c = byte-differs (c .before .before .before .before .before .before .args .a .now) (c .before .before .before .before .before .before .args .b .now) (c .before .before .before .before .loop .i) _ (c .before .before .before .before .loop .inv .1) (omega arith) (omega arith) (c .if2 .taken)
+returns-2 c =
+    byte-differs (c .before .before .before .before .before .before .args .a .now)
+    (c .before .before .before .before .before .before .args .b .now) (c .before .before .before .before .loop .i) _
+    (c .before .before .before .before .loop .inv .1) (omega arith) (omega arith) (c .if2 .taken)
 
 add-i : tie.Need-add-i Inv-loop μ-loop
 add-i c = omega arith
@@ -39,7 +42,9 @@ loop-again : tie.Need-loop-again Inv-loop μ-loop
 loop-again c = (omega arith, byte-agrees (c .before .before .before .before .before .before .args .a .now) (c .before .before .before .before .before .before .args .b .now) (c .before .before .before .before .loop .i) _ (c .before .before .before .before .loop .inv .1) (omega arith) (omega arith) (c .if2 .left))
 
 returns-3 : tie.Need-returns-3 Inv-loop μ-loop
-returns-3 c = all-agree (c .before .before .before .args .a .now) (c .before .before .before .args .b .now) (c .before .loop .i) _ (c .before .loop .inv .1) (omega arith) (omega arith)
+returns-3 c =
+    all-agree (c .before .before .before .args .a .now) (c .before .before .before .args .b .now) (c .before .loop .i) _
+    (c .before .loop .inv .1) (omega arith) (omega arith)
 
 pub is-same-spec : {M : Type 1} → statement M
 is-same-spec =

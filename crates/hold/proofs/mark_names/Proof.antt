@@ -41,12 +41,13 @@ loop-again c =
       omega arith,
       (
         length-set (c .before .before .before .loop .marks) (c .before .before .before .loop .i) (c .mark-of .result) ∙ (c .before .before .before .loop .inv .1 .0),
-        marked-more _ _ _ (c .before .before .before .loop .marks) _ h (c .before .before .before .loop .inv .1 .1) ((c .mark-of .ensures) ∙ ap mark (c .before .name-at .ensures)),
+        marked-more _ _ _ (c .before .before .before .loop .marks) _ h (c .before .before .before .loop .inv .1 .1)
+            (c .mark-of .ensures ∙ ap mark (c .before .name-at .ensures)),
       ),
     )
 
 same-length : tie.Need-same-length Inv-loop μ-loop
-same-length c = (c .before .loop .inv .1 .0)
+same-length c = c .before .loop .inv .1 .0
 
 returns : tie.Need-returns Inv-loop μ-loop
 returns c = λ i h. (c .before .loop .inv .1 .1) i (omega arith)

@@ -3,13 +3,13 @@ use Prim.Native.Nat.{_≤_, _<_, _-_}
 use native.Mathlib.Omega.{arith}
 use mathlib.Core.Path.{_≡_}
 use lib.ListN.{length, drop}
-use Rattle.hold.specs.Mark.{markAfter, mark}
+use Rattle.hold.specs.Mark.{marks, markAfter, mark}
 use Rattle.hold.proofs.Mark.{mark-begins, mark-goes, mark-ends}
 use Rattle.hold.proofs.mark_of.Statement.{statement}
 use Rattle.hold.proofs.mark_of.Tie as tie
 
 abbrev Inv-loop : tie.InvT-loop
-Inv-loop name h₀ i₀ h i = (i ≤ length name) × ((h < 4294967296) × (markAfter h (drop i name) ≡ mark name))
+Inv-loop name h₀ i₀ h i = (i ≤ length name) × ((h < marks) × (markAfter h (drop i name) ≡ mark name))
 
 abbrev μ-loop : tie.MeasureT-loop
 μ-loop name h₀ i₀ h i = length name - i

@@ -42,7 +42,9 @@ part-result-end : tie.Need-part-result-end
 part-result-end c = search needs
 
 returns : tie.Need-returns
-returns c = name-outside _ _ _ _ _ (c .before .before .before .before .before .before .pre) (c .before .before .before .get-u16 .ensures) (c .before .before .get-u162 .ensures) (c .before .if1 .taken)
+returns c =
+    name-outside _ _ _ _ _ (c .before .before .before .before .before .before .pre) (c .before .before .before .get-u16 .ensures)
+    (c .before .before .get-u162 .ensures) (c .before .if1 .taken)
 
 sub-result-2 : tie.Need-sub-result-2
 sub-result-2 c = search needs
@@ -55,8 +57,8 @@ part-result-end-2 c = search needs
 
 returns-2 : tie.Need-returns-2
 returns-2 c =
-    let s = (c .before .before .before .get-u16 .result) in
-    let n = (c .before .before .get-u162 .result) in
+    let s = c .before .before .before .get-u16 .result in
+    let n = c .before .before .get-u162 .result in
     let e : s + n - s ≡ n = omega arith in
     ap (λ k. take k (drop s (c .before .before .before .before .before .before .args .names .now))) e ∙ name-inside _ _ _ _ _ (c .before .before .before .before .before .before .pre) (c .before .before .before .get-u16 .ensures) (c .before .before .get-u162 .ensures) (c .before .if1 .left)
 

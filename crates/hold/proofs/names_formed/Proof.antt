@@ -27,7 +27,9 @@ is-formed-requires : tie.Need-is-formed-requires Inv-loop μ-loop
 is-formed-requires c κs = omega arith
 
 returns : tie.Need-returns Inv-loop μ-loop
-returns c = formed-fails _ _ _ _ _ _ _ (c .before .before .before .before .loop .inv .1) (c .before .is-formed .ensures) (c .before .before .name-at .ensures) (c .before .before .before .loop-test .taken) (c .if1 .taken)
+returns c =
+    formed-fails _ _ _ _ _ _ _ (c .before .before .before .before .loop .inv .1) (c .before .is-formed .ensures)
+    (c .before .before .name-at .ensures) (c .before .before .before .loop-test .taken) (c .if1 .taken)
 
 add-i : tie.Need-add-i Inv-loop μ-loop
 add-i c = omega arith

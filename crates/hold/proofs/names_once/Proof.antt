@@ -23,7 +23,7 @@ slice-aggregate-mark-names : tie.Need-slice-aggregate-mark-names Inv-loop μ-loo
 slice-aggregate-mark-names c = refl
 
 mark-names-requires : tie.Need-mark-names-requires Inv-loop μ-loop
-mark-names-requires c κs = (c .before .before .before .pre)
+mark-names-requires c κs = c .before .before .before .pre
 
 loop-holds : tie.Need-loop-holds Inv-loop μ-loop
 loop-holds c = (omega arith, once-begins _ _ _)
@@ -35,7 +35,9 @@ is-new-requires : tie.Need-is-new-requires Inv-loop μ-loop
 is-new-requires c κs = ((omega arith, omega (arith, (c .before .before .before .before .mark-names .kept .1 .1 .1 .0))), λ k h. (c .before .before .before .before .mark-names .ensures) k (omega arith))
 
 returns : tie.Need-returns Inv-loop μ-loop
-returns c = once-fails _ _ _ _ _ _ (c .before .before .before .before .loop .inv .1) (c .before .is-new .ensures) (c .before .before .before .loop-test .taken) (c .if1 .taken)
+returns c =
+    once-fails _ _ _ _ _ _ (c .before .before .before .before .loop .inv .1) (c .before .is-new .ensures)
+    (c .before .before .before .loop-test .taken) (c .if1 .taken)
 
 add-i : tie.Need-add-i Inv-loop μ-loop
 add-i c = omega arith

@@ -9,7 +9,8 @@ use Rattle.hold.proofs.names_stand.Statement.{statement}
 use Rattle.hold.proofs.names_stand.Tie as tie
 
 abbrev Inv-loop : tie.InvT-loop
-Inv-loop categories n total at₀ i₀ at i = (i ≤ n) × ((at ≤ total) × (namesTest total at (left 4 n i categories) ≡ namesTest total 0 (pieces 4 n categories)))
+Inv-loop categories n total at₀ i₀ at i =
+    (i ≤ n) × ((at ≤ total) × (namesTest total at (left 4 n i categories) ≡ namesTest total 0 (pieces 4 n categories)))
 
 abbrev μ-loop : tie.MeasureT-loop
 μ-loop categories n total at₀ i₀ at i = n - i
@@ -39,16 +40,25 @@ cast-len : tie.Need-cast-len Inv-loop μ-loop
 cast-len c = omega arith
 
 returns : tie.Need-returns Inv-loop μ-loop
-returns c = name-fails _ _ _ _ _ _ _ _ (c .before .before .before .before .loop .inv .1 .1) (c .before .before .before .loop-test .taken) (c .before .before .before .before .before .before .pre) (c .before .before .get-u16 .ensures) (c .before .get-u162 .ensures) (λ h. (c .if1 .taken) (h .here))
+returns c =
+    name-fails _ _ _ _ _ _ _ _ (c .before .before .before .before .loop .inv .1 .1) (c .before .before .before .loop-test .taken)
+    (c .before .before .before .before .before .before .pre) (c .before .before .get-u16 .ensures) (c .before .get-u162 .ensures)
+    (λ h. c .if1 .taken (h .here))
 
 returns-2 : tie.Need-returns-2 Inv-loop μ-loop
-returns-2 c = name-fails _ _ _ _ _ _ _ _ (c .before .before .before .before .before .loop .inv .1 .1) (c .before .before .before .before .loop-test .taken) (c .before .before .before .before .before .before .before .pre) (c .before .before .before .get-u16 .ensures) (c .before .before .get-u162 .ensures) (λ h. omega arith)
+returns-2 c =
+    name-fails _ _ _ _ _ _ _ _ (c .before .before .before .before .before .loop .inv .1 .1)
+    (c .before .before .before .before .loop-test .taken) (c .before .before .before .before .before .before .before .pre)
+    (c .before .before .before .get-u16 .ensures) (c .before .before .get-u162 .ensures) (λ h. omega arith)
 
 sub-if3 : tie.Need-sub-if3 Inv-loop μ-loop
 sub-if3 c = omega arith
 
 returns-3 : tie.Need-returns-3 Inv-loop μ-loop
-returns-3 c = name-fails _ _ _ _ _ _ _ _ (c .before .before .before .before .before .before .loop .inv .1 .1) (c .before .before .before .before .before .loop-test .taken) (c .before .before .before .before .before .before .before .before .pre) (c .before .before .before .before .get-u16 .ensures) (c .before .before .before .get-u162 .ensures) (λ h. omega arith)
+returns-3 c =
+    name-fails _ _ _ _ _ _ _ _ (c .before .before .before .before .before .before .loop .inv .1 .1)
+    (c .before .before .before .before .before .loop-test .taken) (c .before .before .before .before .before .before .before .before .pre)
+    (c .before .before .before .before .get-u16 .ensures) (c .before .before .before .get-u162 .ensures) (λ h. omega arith)
 
 add-at : tie.Need-add-at Inv-loop μ-loop
 add-at c = omega arith
@@ -64,8 +74,10 @@ loop-again c = (
   omega arith,
   (
     omega arith,
-    name-goes _ _ _ _ _ _ _ _ (c .before .before .before .before .before .before .loop .inv .1 .1) (c .before .before .before .before .before .loop-test .taken) (c .before .before .before .before .before .before .before .before .pre) (c .before .before .before .before .get-u16 .ensures) (c .before .before .before .get-u162 .ensures)
-        (record { here = (c .before .before .if1 .left); some = omega arith; fits = omega arith }),
+    name-goes _ _ _ _ _ _ _ _ (c .before .before .before .before .before .before .loop .inv .1 .1)
+        (c .before .before .before .before .before .loop-test .taken) (c .before .before .before .before .before .before .before .before .pre)
+        (c .before .before .before .before .get-u16 .ensures) (c .before .before .before .get-u162 .ensures)
+        (record { here = c .before .before .if1 .left; some = omega arith; fits = omega arith }),
   ),
 )
 

@@ -13,7 +13,8 @@ use Rattle.hold.proofs.numbers_known.Statement.{statement}
 use Rattle.hold.proofs.numbers_known.Tie as tie
 
 abbrev Inv-loop : tie.InvT-loop
-Inv-loop references n known i₀ i = (i ≤ n) × (all (isKnown known) (left 2 n i references) ≡ all (λ c. ltb c known) (map (num 2 0) (pieces 2 n references)))
+Inv-loop references n known i₀ i =
+    (i ≤ n) × (all (isKnown known) (left 2 n i references) ≡ all (λ c. ltb c known) (map (num 2 0) (pieces 2 n references)))
 
 abbrev μ-loop : tie.MeasureT-loop
 μ-loop references n known i₀ i = n - i
@@ -31,7 +32,9 @@ cast-c : tie.Need-cast-c Inv-loop μ-loop
 cast-c c = omega arith
 
 returns : tie.Need-returns Inv-loop μ-loop
-returns c = number-fails (c .before .before .before .before .before .args .known) _ _ _ _ _ (c .before .before .before .loop .inv .1) (c .before .before .loop-test .taken) (c .before .before .before .before .before .pre) (c .before .get-u16 .ensures) (c .if1 .taken)
+returns c =
+    number-fails (c .before .before .before .before .before .args .known) _ _ _ _ _ (c .before .before .before .loop .inv .1)
+    (c .before .before .loop-test .taken) (c .before .before .before .before .before .pre) (c .before .get-u16 .ensures) (c .if1 .taken)
 
 add-i : tie.Need-add-i Inv-loop μ-loop
 add-i c = omega arith

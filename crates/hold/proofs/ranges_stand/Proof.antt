@@ -10,10 +10,11 @@ use Rattle.hold.proofs.ranges_stand.Statement.{statement}
 use Rattle.hold.proofs.ranges_stand.Tie as tie
 
 abbrev Inv-loop : tie.InvT-loop
-Inv-loop ranges n total at₀ i₀ at i = (i ≤ n) × ((at ≤ total) × (rangesTest total at (left 8 n i ranges) ≡ rangesTest total 0 (pieces 8 n ranges)))
+Inv-loop ranges n total sum₀ i₀ sum i =
+    (i ≤ n) × ((sum ≤ total) × (rangesTest total sum (left 8 n i ranges) ≡ rangesTest total 0 (pieces 8 n ranges)))
 
 abbrev μ-loop : tie.MeasureT-loop
-μ-loop ranges n total at₀ i₀ at i = n - i
+μ-loop ranges n total sum₀ i₀ sum i = n - i
 
 loop-holds : tie.Need-loop-holds Inv-loop μ-loop
 loop-holds c = (omega arith, (omega arith, ranges-begin _ _ _))
@@ -59,15 +60,22 @@ cast-count c = omega arith
 
 returns : tie.Need-returns Inv-loop μ-loop
 returns c =
-    range-fails _ _ _ _ _ _ _ _ _ _ (c .before .before .before .before .before .before .loop .inv .1 .1) (c .before .before .before .before .before .loop-test .taken) (c .before .before .before .before .before .before .before .before .pre) (c .before .before .before .before .get-u16 .ensures) (c .before .before .before .get-u162 .ensures) (c .before .before .get-u163 .ensures) (c .before .get-u164 .ensures)
-    (λ h. (c .if1 .taken) (h .here))
+    range-fails _ _ _ _ _ _ _ _ _ _ (c .before .before .before .before .before .before .loop .inv .1 .1)
+    (c .before .before .before .before .before .loop-test .taken) (c .before .before .before .before .before .before .before .before .pre)
+    (c .before .before .before .before .get-u16 .ensures) (c .before .before .before .get-u162 .ensures)
+    (c .before .before .get-u163 .ensures) (c .before .get-u164 .ensures)
+    (λ h. c .if1 .taken (h .here))
 
 is-bound-requires : tie.Need-is-bound-requires Inv-loop μ-loop
 is-bound-requires c κs = omega arith
 
 returns-2 : tie.Need-returns-2 Inv-loop μ-loop
 returns-2 c =
-    range-fails _ _ _ _ _ _ _ _ _ _ (c .before .before .before .before .before .before .before .before .loop .inv .1 .1) (c .before .before .before .before .before .before .before .loop-test .taken) (c .before .before .before .before .before .before .before .before .before .before .pre) (c .before .before .before .before .before .before .get-u16 .ensures) (c .before .before .before .before .before .get-u162 .ensures) (c .before .before .before .before .get-u163 .ensures) (c .before .before .before .get-u164 .ensures)
+    range-fails _ _ _ _ _ _ _ _ _ _ (c .before .before .before .before .before .before .before .before .loop .inv .1 .1)
+    (c .before .before .before .before .before .before .before .loop-test .taken)
+    (c .before .before .before .before .before .before .before .before .before .before .pre)
+    (c .before .before .before .before .before .before .get-u16 .ensures) (c .before .before .before .before .before .get-u162 .ensures)
+    (c .before .before .before .before .get-u163 .ensures) (c .before .before .before .get-u164 .ensures)
     (λ h. clash _ _ (c .before .is-bound .ensures) (c .if2 .taken) (h .lower-ok))
 
 is-bound-requires-2 : tie.Need-is-bound-requires-2 Inv-loop μ-loop
@@ -75,7 +83,12 @@ is-bound-requires-2 c κs = omega arith
 
 returns-3 : tie.Need-returns-3 Inv-loop μ-loop
 returns-3 c =
-    range-fails _ _ _ _ _ _ _ _ _ _ (c .before .before .before .before .before .before .before .before .before .before .loop .inv .1 .1) (c .before .before .before .before .before .before .before .before .before .loop-test .taken) (c .before .before .before .before .before .before .before .before .before .before .before .before .pre) (c .before .before .before .before .before .before .before .before .get-u16 .ensures) (c .before .before .before .before .before .before .before .get-u162 .ensures) (c .before .before .before .before .before .before .get-u163 .ensures) (c .before .before .before .before .before .get-u164 .ensures)
+    range-fails _ _ _ _ _ _ _ _ _ _ (c .before .before .before .before .before .before .before .before .before .before .loop .inv .1 .1)
+    (c .before .before .before .before .before .before .before .before .before .loop-test .taken)
+    (c .before .before .before .before .before .before .before .before .before .before .before .before .pre)
+    (c .before .before .before .before .before .before .before .before .get-u16 .ensures)
+    (c .before .before .before .before .before .before .before .get-u162 .ensures)
+    (c .before .before .before .before .before .before .get-u163 .ensures) (c .before .before .before .before .before .get-u164 .ensures)
     (λ h. clash _ _ (c .before .is-bound2 .ensures) (c .if3 .taken) (h .upper-ok))
 
 sub-if4 : tie.Need-sub-if4 Inv-loop μ-loop
@@ -83,11 +96,18 @@ sub-if4 c = omega arith
 
 returns-4 : tie.Need-returns-4 Inv-loop μ-loop
 returns-4 c =
-    range-fails _ _ _ _ _ _ _ _ _ _ (c .before .before .before .before .before .before .before .before .before .before .before .loop .inv .1 .1) (c .before .before .before .before .before .before .before .before .before .before .loop-test .taken) (c .before .before .before .before .before .before .before .before .before .before .before .before .before .pre) (c .before .before .before .before .before .before .before .before .before .get-u16 .ensures) (c .before .before .before .before .before .before .before .before .get-u162 .ensures) (c .before .before .before .before .before .before .before .get-u163 .ensures) (c .before .before .before .before .before .before .get-u164 .ensures)
+    range-fails _ _ _ _ _ _ _ _ _ _
+    (c .before .before .before .before .before .before .before .before .before .before .before .loop .inv .1 .1)
+    (c .before .before .before .before .before .before .before .before .before .before .loop-test .taken)
+    (c .before .before .before .before .before .before .before .before .before .before .before .before .before .pre)
+    (c .before .before .before .before .before .before .before .before .before .get-u16 .ensures)
+    (c .before .before .before .before .before .before .before .before .get-u162 .ensures)
+    (c .before .before .before .before .before .before .before .get-u163 .ensures)
+    (c .before .before .before .before .before .before .get-u164 .ensures)
     (λ h. omega arith)
 
-add-at : tie.Need-add-at Inv-loop μ-loop
-add-at c = omega arith
+add-sum : tie.Need-add-sum Inv-loop μ-loop
+add-sum c = omega arith
 
 add-i : tie.Need-add-i Inv-loop μ-loop
 add-i c = omega arith
@@ -100,10 +120,13 @@ loop-again c = (
   omega arith,
   (
     omega arith,
-    range-goes _ _ _ _ _ _ _ _ _ _ (c .before .before .before .before .before .before .before .before .before .before .before .loop .inv .1 .1) (c .before .before .before .before .before .before .before .before .before .before .loop-test .taken) (c .before .before .before .before .before .before .before .before .before .before .before .before .before .pre)
+    range-goes _ _ _ _ _ _ _ _ _ _
+        (c .before .before .before .before .before .before .before .before .before .before .before .loop .inv .1 .1)
+        (c .before .before .before .before .before .before .before .before .before .before .loop-test .taken)
+        (c .before .before .before .before .before .before .before .before .before .before .before .before .before .pre)
         (c .before .before .before .before .before .before .before .before .before .get-u16 .ensures) (c .before .before .before .before .before .before .before .before .get-u162 .ensures) (c .before .before .before .before .before .before .before .get-u163 .ensures) (c .before .before .before .before .before .before .get-u164 .ensures)
         (record {
-          here = (c .before .before .before .before .before .if1 .left);
+          here = c .before .before .before .before .before .if1 .left;
           lower-ok = passed _ _ (c .before .before .before .before .is-bound .ensures) (c .before .before .before .if2 .left);
           upper-ok = passed _ _ (c .before .before .is-bound2 .ensures) (c .before .if3 .left);
           fits = omega arith;
@@ -141,7 +164,7 @@ ranges-stand-spec =
     returns-3
     sub-if4
     returns-4
-    add-at
+    add-sum
     add-i
     loop-less
     loop-again

@@ -25,36 +25,49 @@ unfolding nameSlotsIn
 returns-2 c = not-held _ _ (λ h. clash _ _ (c .before .names-stand .ensures) (c .if2 .taken) (h .names-stand))
 
 flags-hold-requires : tie.Need-flags-hold-requires
-flags-hold-requires c κs = says _ _ _ _ _ _ (passed _ _ (c .before .before .before .is-enough .ensures) (c .before .before .if1 .left)) .for-definitions
+flags-hold-requires c κs =
+    says _ _ _ _ _ _ (passed _ _ (c .before .before .before .is-enough .ensures) (c .before .before .if1 .left)) .for-definitions
 
 returns-3 : tie.Need-returns-3
 returns-3 c = not-held _ _ (λ h. clash _ _ (c .before .flags-hold .ensures) (c .if3 .taken) (h .flags))
 
 ranges-stand-requires : tie.Need-ranges-stand-requires
-ranges-stand-requires c κs = says _ _ _ _ _ _ (passed _ _ (c .before .before .before .before .before .is-enough .ensures) (c .before .before .before .before .if1 .left)) .for-ranges
+ranges-stand-requires c κs =
+    says _ _ _ _ _ _
+    (passed _ _ (c .before .before .before .before .before .is-enough .ensures) (c .before .before .before .before .if1 .left)) .for-ranges
 
 returns-4 : tie.Need-returns-4
 unfolding slotsIn
 returns-4 c = not-held _ _ (λ h. clash _ _ (c .before .ranges-stand .ensures) (c .if4 .taken) (h .ranges-stand))
 
 numbers-known-requires : tie.Need-numbers-known-requires
-numbers-known-requires c κs = says _ _ _ _ _ _ (passed _ _ (c .before .before .before .before .before .before .before .is-enough .ensures) (c .before .before .before .before .before .before .if1 .left)) .for-references
+numbers-known-requires c κs =
+    says _ _ _ _ _ _
+    (passed _ _ (c .before .before .before .before .before .before .before .is-enough .ensures) (c .before .before .before .before .before .before .if1 .left))
+    .for-references
 
 returns-5 : tie.Need-returns-5
 unfolding numbersIn
 returns-5 c = not-held _ _ (λ h. clash _ _ (c .before .numbers-known .ensures) (c .if5 .taken) (h .known))
 
 names-formed-requires : tie.Need-names-formed-requires
-names-formed-requires c κs = says _ _ _ _ _ _ (passed _ _ (c .before .before .before .before .before .before .before .before .before .is-enough .ensures) (c .before .before .before .before .before .before .before .before .if1 .left)) .for-categories
+names-formed-requires c κs =
+    says _ _ _ _ _ _
+    (passed _ _ (c .before .before .before .before .before .before .before .before .before .is-enough .ensures) (c .before .before .before .before .before .before .before .before .if1 .left))
+    .for-categories
 
 returns-6 : tie.Need-returns-6
-returns-6 c = not-held _ _ (λ h. clash _ _ ((c .before .names-formed .ensures) ∙ ap (all formed) (names-are _ _ (h .long) (h .names-stand))) (c .if6 .taken) (h .names-formed))
+returns-6 c =
+    not-held _ _
+    (λ h. clash _ _ (c .before .names-formed .ensures ∙ ap (all formed) (names-are _ _ (h .long) (h .names-stand))) (c .if6 .taken) (h .names-formed))
 
 names-once-requires : tie.Need-names-once-requires
 names-once-requires c κs = let e = says _ _ _ _ _ _ (passed _ _ (c .before .before .before .before .before .before .before .before .before .before .before .is-enough .ensures) (c .before .before .before .before .before .before .before .before .before .before .if1 .left)) in (e .for-categories, e .limits .0)
 
 returns-7 : tie.Need-returns-7
-returns-7 c = not-held _ _ (λ h. clash _ _ ((c .before .names-once .ensures) ∙ ap once (names-are _ _ (h .long) (h .names-stand))) (c .if7 .taken) (h .names-once))
+returns-7 c =
+    not-held _ _
+    (λ h. clash _ _ (c .before .names-once .ensures ∙ ap once (names-are _ _ (h .long) (h .names-stand))) (c .if7 .taken) (h .names-once))
 
 returns-8 : tie.Need-returns-8
 unfolding nameSlotsIn slotsIn numbersIn
@@ -68,8 +81,8 @@ returns-8 c =
       flags = passed _ _ (c .before .before .before .before .before .before .before .before .before .flags-hold .ensures) (c .before .before .before .before .before .before .before .before .if3 .left);
       ranges-stand = passed _ _ (c .before .before .before .before .before .before .before .ranges-stand .ensures) (c .before .before .before .before .before .before .if4 .left);
       known = passed _ _ (c .before .before .before .before .before .numbers-known .ensures) (c .before .before .before .before .if5 .left);
-      names-formed = passed _ _ ((c .before .before .before .names-formed .ensures) ∙ ap (all formed) (names-are _ _ long stand)) (c .before .before .if6 .left);
-      names-once = passed _ _ ((c .before .names-once .ensures) ∙ ap once (names-are _ _ long stand)) (c .if7 .left);
+      names-formed = passed _ _ (c .before .before .before .names-formed .ensures ∙ ap (all formed) (names-are _ _ long stand)) (c .before .before .if6 .left);
+      names-once = passed _ _ (c .before .names-once .ensures ∙ ap once (names-are _ _ long stand)) (c .if7 .left);
     })
 
 pub reading-holds-spec : {M : Type 1} → statement M

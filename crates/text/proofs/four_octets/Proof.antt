@@ -16,8 +16,8 @@ sub-if1 c = search needs
 
 returns : tie.Need-returns
 returns c =
-    let a = (c .before .before .args) in
-    ap (nextBy (a .at)) (sym (four-ends (now (a .s)) (a .at) ((c .if1 .taken))))
+    let a = c .before .before .args in
+    ap (nextBy (a .at)) (sym (four-ends (now (a .s)) (a .at) (c .if1 .taken)))
 
 shared-slice-read-a : tie.Need-shared-slice-read-a
 shared-slice-read-a c = search needs
@@ -42,38 +42,43 @@ shared-slice-read-d c = search needs
 
 returns-2 : tie.Need-returns-2
 returns-2 c =
-    let a = (c .before .before .before .before .before .before .before .args) in
-    ap (nextBy (a .at)) (sym (four-by (now (a .s)) (a .at) ((c .before .before .before .before .before .if1 .left)) false _ _ (too-low ((c .before .before .before .before .before .before .before .pre .1 .1)) ((c .if2 .taken))) refl refl))
+    let a = c .before .before .before .before .before .before .before .args in
+    ap (nextBy (a .at)) (sym (four-by (now (a .s)) (a .at) (c .before .before .before .before .before .if1 .left) false _ _ (too-low (c .before .before .before .before .before .before .before .pre .1 .1) (c .if2 .taken)) refl refl))
 
 returns-3 : tie.Need-returns-3
 returns-3 c =
-    let a = (c .before .before .before .before .before .before .before .before .args) in
-    ap (nextBy (a .at)) (sym (four-by (now (a .s)) (a .at) ((c .before .before .before .before .before .before .if1 .left)) false _ _ (too-high ((c .before .before .before .before .before .before .before .before .pre .1 .1)) ((c .if3 .taken))) refl refl))
+    let a = c .before .before .before .before .before .before .before .before .args in
+    ap (nextBy (a .at)) (sym (four-by (now (a .s)) (a .at) (c .before .before .before .before .before .before .if1 .left) false _ _ (too-high (c .before .before .before .before .before .before .before .before .pre .1 .1) (c .if3 .taken)) refl refl))
 
 class-requires : tie.Need-class-requires
 class-requires c κs = search needs
 
 returns-4 : tie.Need-returns-4
 returns-4 c =
-    let a = (c .before .before .before .before .before .before .before .before .before .before .args) in
-    ap (nextBy (a .at)) (sym (four-by (now (a .s)) (a .at) ((c .before .before .before .before .before .before .before .before .if1 .left)) true false _ (just-so ((c .before .before .before .before .before .before .before .before .before .before .pre .1 .1)) ((c .before .before .before .if2 .left)) ((c .before .before .if3 .left))) (no-tail ((c .before .before .before .before .before .shared-slice-known4 .given) (a .at + 2) .fits) (λ e. (c .if4 .taken) ((c .before .class .ensures) ∙ e))) refl))
+    let a = c .before .before .before .before .before .before .before .before .before .before .args in
+    let second = just-so (c .before .before .before .before .before .before .before .before .before .before .pre .1 .1) (c .before .before .before .if2 .left) (c .before .before .if3 .left) in
+    let third = no-tail (c .before .before .before .before .before .shared-slice-known4 .given (a .at + 2) .fits) (λ e. (c .if4 .taken) (c .before .class .ensures ∙ e)) in
+    ap (nextBy (a .at)) (sym (four-by (now (a .s)) (a .at) (c .before .before .before .before .before .before .before .before .if1 .left) true false _ second third refl))
 
 class-requires-2 : tie.Need-class-requires-2
 class-requires-2 c κs = search needs
 
 returns-5 : tie.Need-returns-5
 returns-5 c =
-    let a = (c .before .before .before .before .before .before .before .before .before .before .before .before .args) in
-    ap (nextBy (a .at)) (sym (four-by (now (a .s)) (a .at) ((c .before .before .before .before .before .before .before .before .before .before .if1 .left)) true true false (just-so ((c .before .before .before .before .before .before .before .before .before .before .before .before .pre .1 .1)) ((c .before .before .before .before .before .if2 .left)) ((c .before .before .before .before .if3 .left))) (is-tail ((c .before .before .before .before .before .before .before .shared-slice-known4 .given) (a .at + 2) .fits) (sym ((c .before .before .before .class .ensures)) ∙ (c .before .before .if4 .left))) (no-tail ((c .before .before .before .before .before .before .shared-slice-known5 .given) (a .at + 3) .fits) (λ e. (c .if5 .taken) ((c .before .class2 .ensures) ∙ e)))))
+    let a = c .before .before .before .before .before .before .before .before .before .before .before .before .args in
+    let second = just-so (c .before .before .before .before .before .before .before .before .before .before .before .before .pre .1 .1) (c .before .before .before .before .before .if2 .left) (c .before .before .before .before .if3 .left) in
+    let third = is-tail (c .before .before .before .before .before .before .before .shared-slice-known4 .given (a .at + 2) .fits) (sym (c .before .before .before .class .ensures) ∙ (c .before .before .if4 .left)) in
+    let fourth = no-tail (c .before .before .before .before .before .before .shared-slice-known5 .given (a .at + 3) .fits) (λ e. (c .if5 .taken) (c .before .class2 .ensures ∙ e)) in
+    ap (nextBy (a .at)) (sym (four-by (now (a .s)) (a .at) (c .before .before .before .before .before .before .before .before .before .before .if1 .left) true true false second third fourth))
 
 cast-t18 : tie.Need-cast-t18
-cast-t18 c = omega (arith, (c .before .before .before .before .before .before .before .before .before .shared-slice-known2 .given) ((c .before .before .before .before .before .before .before .before .before .before .before .before .args .at)))
+cast-t18 c = omega (arith, (c .before .before .before .before .before .before .before .before .before .shared-slice-known2 .given) (c .before .before .before .before .before .before .before .before .before .before .before .before .args .at))
 
 mul-t20 : tie.Need-mul-t20
 mul-t20 c = search needs
 
 cast-t21 : tie.Need-cast-t21
-cast-t21 c = omega (arith, (c .before .before .before .before .before .before .before .before .shared-slice-known3 .given) ((c .before .before .before .before .before .before .before .before .before .before .before .before .args .at) + 1))
+cast-t21 c = omega (arith, (c .before .before .before .before .before .before .before .before .shared-slice-known3 .given) (c .before .before .before .before .before .before .before .before .before .before .before .before .args .at + 1))
 
 add-t23 : tie.Need-add-t23
 add-t23 c = search needs
@@ -82,7 +87,7 @@ mul-t24 : tie.Need-mul-t24
 mul-t24 c = search needs
 
 cast-t25 : tie.Need-cast-t25
-cast-t25 c = omega (arith, (c .before .before .before .before .before .before .before .shared-slice-known4 .given) ((c .before .before .before .before .before .before .before .before .before .before .before .before .args .at) + 2))
+cast-t25 c = omega (arith, (c .before .before .before .before .before .before .before .shared-slice-known4 .given) (c .before .before .before .before .before .before .before .before .before .before .before .before .args .at + 2))
 
 add-t27 : tie.Need-add-t27
 add-t27 c = search needs
@@ -91,7 +96,7 @@ mul-t28 : tie.Need-mul-t28
 mul-t28 c = search needs
 
 cast-t29 : tie.Need-cast-t29
-cast-t29 c = omega (arith, (c .before .before .before .before .before .before .shared-slice-known5 .given) ((c .before .before .before .before .before .before .before .before .before .before .before .before .args .at) + 3))
+cast-t29 c = omega (arith, (c .before .before .before .before .before .before .shared-slice-known5 .given) (c .before .before .before .before .before .before .before .before .before .before .before .before .args .at + 3))
 
 add-t31 : tie.Need-add-t31
 add-t31 c = search needs
@@ -101,8 +106,11 @@ add-t10 c = search needs
 
 returns-6 : tie.Need-returns-6
 returns-6 c =
-    let a = (c .before .before .before .before .before .before .before .before .before .before .before .before .args) in
-    ap (nextBy (a .at)) (sym (four-by (now (a .s)) (a .at) ((c .before .before .before .before .before .before .before .before .before .before .if1 .left)) true true true (just-so ((c .before .before .before .before .before .before .before .before .before .before .before .before .pre .1 .1)) ((c .before .before .before .before .before .if2 .left)) ((c .before .before .before .before .if3 .left))) (is-tail ((c .before .before .before .before .before .before .before .shared-slice-known4 .given) (a .at + 2) .fits) (sym ((c .before .before .before .class .ensures)) ∙ (c .before .before .if4 .left))) (is-tail ((c .before .before .before .before .before .before .shared-slice-known5 .given) (a .at + 3) .fits) (sym ((c .before .class2 .ensures)) ∙ (c .if5 .left)))))
+    let a = c .before .before .before .before .before .before .before .before .before .before .before .before .args in
+    let second = just-so (c .before .before .before .before .before .before .before .before .before .before .before .before .pre .1 .1) (c .before .before .before .before .before .if2 .left) (c .before .before .before .before .if3 .left) in
+    let third = is-tail (c .before .before .before .before .before .before .before .shared-slice-known4 .given (a .at + 2) .fits) (sym (c .before .before .before .class .ensures) ∙ (c .before .before .if4 .left)) in
+    let fourth = is-tail (c .before .before .before .before .before .before .shared-slice-known5 .given (a .at + 3) .fits) (sym (c .before .class2 .ensures) ∙ (c .if5 .left)) in
+    ap (nextBy (a .at)) (sym (four-by (now (a .s)) (a .at) (c .before .before .before .before .before .before .before .before .before .before .if1 .left) true true true second third fourth))
 
 pub four-octets-spec : {M : Type 1} → statement M
 four-octets-spec =

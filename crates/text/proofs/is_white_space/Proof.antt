@@ -81,25 +81,25 @@ not-white c k l r s t =
     )
 
 returns : tie.Need-returns
-returns c = sym (not-white ((c .before .before .args .c)) ((c .before .match .rest .0 .1)) ((c .before .match .rest .1)) (λ i. omega arith) (λ i. omega arith) (λ i. omega arith))
+returns c = sym (not-white (c .before .before .args .c) (c .before .match .rest .0 .1) (c .before .match .rest .1) (λ i. omega arith) (λ i. omega arith) (λ i. omega arith))
 
 returns-2 : tie.Need-returns-2
-returns-2 c = sym (not-white ((c .before .before .before .before .args .c)) ((c .before .before .before .match .rest .0 .1)) ((c .before .before .before .match .rest .1)) (λ i. omega arith) (λ i. omega arith) (λ i. omega arith))
+returns-2 c = sym (not-white (c .before .before .before .before .args .c) (c .before .before .before .match .rest .0 .1) (c .before .before .before .match .rest .1) (λ i. omega arith) (λ i. omega arith) (λ i. omega arith))
 
 returns-3 : tie.Need-returns-3
-returns-3 c = sym (not-white ((c .before .before .before .before .before .before .args .c)) ((c .before .before .before .before .before .match .rest .0 .1)) ((c .before .before .before .before .before .match .rest .1)) (λ i. omega arith) (λ i. omega arith) (λ i. omega arith))
+returns-3 c = sym (not-white (c .before .before .before .before .before .before .args .c) (c .before .before .before .before .before .match .rest .0 .1) (c .before .before .before .before .before .match .rest .1) (λ i. omega arith) (λ i. omega arith) (λ i. omega arith))
 
 returns-4 : tie.Need-returns-4
-returns-4 c = sym (not-white ((c .before .before .before .before .before .before .before .args .c)) ((c .before .before .before .before .before .before .match .rest .0 .1)) ((c .before .before .before .before .before .before .match .rest .1)) (λ i. omega arith) (λ i. omega arith) (λ i. omega arith))
+returns-4 c = sym (not-white (c .before .before .before .before .before .before .before .args .c) (c .before .before .before .before .before .before .match .rest .0 .1) (c .before .before .before .before .before .before .match .rest .1) (λ i. omega arith) (λ i. omega arith) (λ i. omega arith))
 
 returns-5 : tie.Need-returns-5
-returns-5 c = sym (late ((c .match .keys2)))
+returns-5 c = sym (late (c .match .keys2))
 
 returns-6 : tie.Need-returns-6
 returns-6 c = sym (separators (omega arith))
 
 returns-7 : tie.Need-returns-7
-returns-7 c = sym (early ((c .match .keys1)))
+returns-7 c = sym (early (c .match .keys1))
 
 returns-8 : tie.Need-returns-8
 returns-8 c = sym (controls (omega arith))

@@ -2,7 +2,7 @@
 -- Assumes nothing.
 use native.Mathlib.Omega.{arith}
 use Prim.Native.Nat.{_+_}
-use mathlib.Core.Path.{refl, sym, ap, _∙_}
+use mathlib.Core.Path.{sym, ap, _∙_}
 use mathlib.Core.Bool.{true, false}
 use denote.Ref.{now}
 use Rattle.text.specs.Answers.{nextBy}
@@ -16,8 +16,8 @@ sub-if1 c = search needs
 
 returns : tie.Need-returns
 returns c =
-    let a = (c .before .before .args) in
-    ap (nextBy (a .at)) (sym (two-ends (now (a .s)) (a .at) ((c .if1 .taken))))
+    let a = c .before .before .args in
+    ap (nextBy (a .at)) (sym (two-ends (now (a .s)) (a .at) (c .if1 .taken)))
 
 shared-slice-read-a : tie.Need-shared-slice-read-a
 shared-slice-read-a c = search needs
@@ -33,17 +33,18 @@ class-requires c κs = search needs
 
 returns-2 : tie.Need-returns-2
 returns-2 c =
-    let a = (c .before .before .before .before .before .before .args) in
-    ap (nextBy (a .at)) (sym (two-by (now (a .s)) (a .at) ((c .before .before .before .before .if1 .left)) false (no-tail ((c .before .before .shared-slice-known3 .given) (a .at + 1) .fits) (λ e. (c .if2 .taken) ((c .before .class .ensures) ∙ e)))))
+    let a = c .before .before .before .before .before .before .args in
+    let second = no-tail (c .before .before .shared-slice-known3 .given (a .at + 1) .fits) (λ e. (c .if2 .taken) (c .before .class .ensures ∙ e)) in
+    ap (nextBy (a .at)) (sym (two-by (now (a .s)) (a .at) (c .before .before .before .before .if1 .left) false second))
 
 cast-t12 : tie.Need-cast-t12
-cast-t12 c = omega (arith, (c .before .before .before .shared-slice-known2 .given) ((c .before .before .before .before .before .before .args .at)))
+cast-t12 c = omega (arith, (c .before .before .before .shared-slice-known2 .given) (c .before .before .before .before .before .before .args .at))
 
 mul-t14 : tie.Need-mul-t14
 mul-t14 c = search needs
 
 cast-t15 : tie.Need-cast-t15
-cast-t15 c = omega (arith, (c .before .before .shared-slice-known3 .given) ((c .before .before .before .before .before .before .args .at) + 1))
+cast-t15 c = omega (arith, (c .before .before .shared-slice-known3 .given) (c .before .before .before .before .before .before .args .at + 1))
 
 add-t17 : tie.Need-add-t17
 add-t17 c = search needs
@@ -53,8 +54,9 @@ add-t6 c = search needs
 
 returns-3 : tie.Need-returns-3
 returns-3 c =
-    let a = (c .before .before .before .before .before .before .args) in
-    ap (nextBy (a .at)) (sym (two-by (now (a .s)) (a .at) ((c .before .before .before .before .if1 .left)) true (is-tail ((c .before .before .shared-slice-known3 .given) (a .at + 1) .fits) (sym ((c .before .class .ensures)) ∙ (c .if2 .left)))))
+    let a = c .before .before .before .before .before .before .args in
+    let second = is-tail (c .before .before .shared-slice-known3 .given (a .at + 1) .fits) (sym (c .before .class .ensures) ∙ (c .if2 .left)) in
+    ap (nextBy (a .at)) (sym (two-by (now (a .s)) (a .at) (c .before .before .before .before .if1 .left) true second))
 
 pub two-octets-spec : {M : Type 1} → statement M
 two-octets-spec =
