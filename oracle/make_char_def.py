@@ -88,10 +88,8 @@ def first_bad():
 
 def ill_formed():
     """3 before any line, wherever the bytes stand."""
-    texts = [bytes.fromhex(line.split(" ")[0].strip("-"))
-             for line in (FOLDER / "lists/utf8.txt").read_text().splitlines()]
-    bad = [data for data in texts if paper.sized_char_def(data).__class__ is str]
-    broken = [data for data in bad if paper.sized_char_def(data).startswith("refused 3")][::9]
+    listed = [line.split(" ")[0].strip("-") for line in (FOLDER / "lists/utf8.txt").read_text().splitlines()]
+    broken = [data for data in map(bytes.fromhex, listed) if str(paper.sized_char_def(data)).startswith("refused 3 ")][::9]
     around = [(b"", b""), (b"A 1 0 2\n0x41 A", b" 1 0 2\n"), (b"A 1\n# ", b"\n0x41 A"), ("漢字 1 0 2\n".encode(), b"\xff")]
     return [before + data + behind for data in broken for before, behind in around]
 

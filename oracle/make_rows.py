@@ -12,10 +12,11 @@ SEED = 5
 
 SHORT, LONG = 560, 30
 
-OVERLAPS = ["0x0..0xFFFF A\n0x41..0x43 B\n0x42 C A", "0x41..0x45 A\n0x43..0x50 B\n0x45..0x46 C", "0x41 A\n0x42 A\n0x43 A",
-            "DEFAULT 0 1 0\n0x41..0x43\n0x42 A", "0x41..0x43\n0x42 A\n0x60 DEFAULT", "0x50..0x41 A\n0x43 B", "0xFFFF A\n0x0 B",
-            "0x41 DEFAULT A\n0x41 A DEFAULT", "0x41 A\n0x41 B\n0x41 A C", "0xD800..0xE000 A\n0xFFFD B", "DEFAULT 0 1 0\n0x50..0x41 A",
-            "0x0..0xFFFE A", "0x41..0xDFFF A", "0xFFFF..0x0 A", "0x0..0x0 A\n0x1..0x1 B\n0xFFFF..0xFFFF C"]
+OVERLAPS = ["0x0..0xFFFF A\n0x41..0x43 B\n0x42 C A", "0x41..0x45 A\n0x43..0x50 B\n0x45..0x46 C",
+            "0x41 A\n0x42 A\n0x43 A", "DEFAULT 0 1 0\n0x41..0x43\n0x42 A", "0x41..0x43\n0x42 A\n0x60 DEFAULT",
+            "0x50..0x41 A\n0x43 B", "0xFFFF A\n0x0 B", "0x41 DEFAULT A\n0x41 A DEFAULT", "0x41 A\n0x41 B\n0x41 A C",
+            "0xD800..0xE000 A\n0xFFFD B", "DEFAULT 0 1 0\n0x50..0x41 A", "0x0..0xFFFD A", "0x41..0xDFFF A",
+            "0xFFFF..0x0 A", "0x0..0x0 A\n0x1..0x1 B\n0xFFFF..0xFFFF C"]
 
 # 2,048 ranges of one code point each, no two of them neighbours: 4,097 rows.
 APART = [numbered(1, 999, "0x", "0 A\n"), numbered(1, 999, "0x", "2 B\n"), numbered(1, 49, "0x", "4 C\n")]
@@ -32,7 +33,8 @@ def large():
 
 def small():
     random = Random(SEED)
-    texts = OVERLAPS + names() + range_fields()[::3] + [char_text(random) for _ in range(SHORT)] + [long_text(random) for _ in range(LONG)]
+    texts = OVERLAPS + names() + range_fields()[::3]
+    texts += [char_text(random) for _ in range(SHORT)] + [long_text(random) for _ in range(LONG)]
     return [text(case) for case in dict.fromkeys(texts) if has_rows(case.encode())]
 
 
@@ -59,9 +61,11 @@ def answer_words(rows, written):
 def make():
     written, summed = small(), large()
     said = ask(f"rows {word(case.data)}" for case in written + summed)
-    assert said[:len(written)] == [paper.rows_answer(paper.sized_char_def(case.data)) for case in written], "document 01's rule"
+    by_rule = [paper.rows_answer(paper.sized_char_def(case.data)) for case in written]
+    assert said[:len(written)] == by_rule, "document 01's covering rule"
     answers = list(map(rows_of, said))
-    lines = [f"{case.words} {answer_words(rows, at < len(written))}" for at, (case, rows) in enumerate(zip(written + summed, answers))]
+    lines = [f"{case.words} {answer_words(rows, written=at < len(written))}"
+             for at, (case, rows) in enumerate(zip(written + summed, answers))]
     (FOLDER / "lists/rows.txt").write_text("".join(line + "\n" for line in lines))
     print(f"rows.txt: {len(lines)} lines, at most {max(map(len, answers))} rows")
 
