@@ -7,6 +7,7 @@ import tempfile
 
 import paper
 from ask import FOLDER, Random, ask, word
+from texts import char_text, unk_text
 
 SEED = 2
 TEXTS = int(sys.argv[1]) if len(sys.argv) > 1 else 200_000
@@ -183,65 +184,9 @@ def check_numerals():
     same("numerals.txt", lines, wanted, [line.split(" ")[2] for line in lines])
 
 
-# Random texts: lines that are nearly right, made of pieces that the rules care about.
-
-NAMES = ["A", "B", "C", "DEFAULT", "漢字", "A", "B", "C", "é", "0x", "A\u3000B", "A\u200b", "\ufeffA",
-         "x#y", ".."]
-SPACES = [" ", " ", " ", "\t", "  ", "\u3000", "\v", "\f", "\r", "\u0085", "\u00a0", "\u2003",
-          "\u2028", "\u180e", "\x1c", ""]
-BOUNDS = ["0x41", "0x43", "0x41..0x43", "0x30..0x50", "0x45..0x42", "0x0..0xFFFF", "0x0x41..43",
-          "0x+41", "0xFEFE..0xFF00", "0xD7FF..0xE000", "0xDFFF", "0xffFD..FFFF", "0x004E00..9FFF"]
-PARTS = ["0x", "0X", "x", "0", "+", "-", "..", ".", "41", "FEFF", "fffe", "D800", "FFFF", "10000",
-         "g"]
-NUMBERS = ["0", "1", "1", "2", "+1", "01", "4294967295", "70000"]
-BAD_NUMBERS = ["4294967296", "-1", "-0", "", "+", "1.", "１", "a", "+-1", "1 1"]
-COSTS = ["0", "-1", "+5", "32767", "-32769", "2147483647", "-2147483648", "-0"]
-BAD_COSTS = ["2147483648", "-2147483649", "", "-", "1a", " 1", "--1"]
-ENDS = ["\n"] * 40 + ["\r\n", "\r\r\n", "\r"] * 5 + ["\n\n"]
 LOOKED_UP = [0, 0x2F, 0x30, 0x41, 0x42, 0x43, 0x44, 0x45, 0x46, 0x50, 0x51, 0x4E00, 0xA000, 0xD7FF,
              0xD800, 0xDFFF, 0xE000, 0xFEFE, 0xFF00, 0xFF01, 0xFFFD, 0xFFFF, 0x10000, 0x10FFFF,
              0x110000]
-
-
-def space(random):
-    return " " if random.below(8) else random.of(SPACES)
-
-
-def usually(random, good, bad):
-    return random.of(good if random.below(24) else bad)
-
-
-def char_line(random):
-    kind = random.below(16)
-    if kind == 0:
-        return random.of(["", " ", "\u3000", "# note", "\t#0x41 A", "\r"])
-    if kind < 6:
-        fields = [random.of(NAMES)] + [usually(random, NUMBERS, BAD_NUMBERS) for _ in range(3)]
-    else:
-        damaged = "0x" + "".join(random.of(PARTS) for _ in range(1 + random.below(4)))
-        first = usually(random, BOUNDS, [damaged])
-        fields = [first] + [random.of(NAMES) for _ in range(random.below(4))]
-    line = "".join(field + space(random) for field in fields)
-    return space(random) + line + random.of(["", "", "", "# A", "#"])
-
-
-def char_text(random):
-    lines = [char_line(random) + "\n" for _ in range(1 + random.below(8))]
-    text = "".join(lines)
-    return text if random.below(2) else text[:-1]
-
-
-def unk_line(random):
-    fields = [random.of(NAMES), usually(random, NUMBERS, BAD_NUMBERS),
-              usually(random, NUMBERS, BAD_NUMBERS), usually(random, COSTS, BAD_COSTS)]
-    fields += [random.of(["", "x", "名詞", "*", "\0", "\r", " "]) for _ in range(random.below(5))]
-    return ",".join(fields if random.below(24) else fields[:random.below(4)])
-
-
-def unk_text(random):
-    lines = [unk_line(random) + random.of(ENDS) for _ in range(1 + random.below(6))]
-    text = "".join(lines)
-    return text if random.below(2) else text[:-1]
 
 
 def check_char_texts(random):

@@ -2,7 +2,7 @@
 """Puts the lists that the try_ programs replay into the place where rt hands them over, crates/NAME/stdin.
 
 With --check it writes nothing and fails where a file there is not what the lists say. The character list is made here, by Python's
-own encoder; the others are made by make_lists.py with the Rust."""
+own encoder; the others are made by make_lists.py and make_char_def.py with the Rust."""
 import os
 import sys
 
@@ -35,7 +35,7 @@ def try_text():
     return texts + characters() + lines("utf8_runs.txt") + white + none
 
 
-TRIES = {"try_text": try_text, "try_numeral": lambda: lines("numerals.txt")}
+TRIES = {"try_text": try_text, "try_numeral": lambda: lines("numerals.txt"), "try_char_def": lambda: lines("char_def.txt")}
 
 
 def main():

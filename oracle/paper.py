@@ -1,10 +1,17 @@
 """Document 01's rules for char.def and unk.def, written from its words and not from the Rust.
 
 Answers have the form of the oracle's, without messages, so that the two can be held side by side.
-Sizes are left out: the Rust has none.
+`Reading` has no sizes, since the Rust has none; `Sized` has document 01's.
 """
 
 import re
+import sys
+
+# Python refuses decimal numerals of over 4,300 digits; a line of char.def may hold one.
+sys.set_int_max_str_digits(0)
+
+# Document 01, "Sizes".
+TEXT_BYTES, CATEGORIES, NAME_BYTES, CATEGORY_LINES, RANGES, REFERENCES = 65536, 512, 16384, 512, 2048, 8192
 
 WHITE = "".join(map(chr, [*range(0x09, 0x0E), 0x20, 0x85, 0xA0, 0x1680, *range(0x2000, 0x200B),
                           0x2028, 0x2029, 0x202F, 0x205F, 0x3000]))
@@ -51,8 +58,18 @@ class Reading:
 
     def intern(self, name):
         if name not in self.names:
-            self.names.append(name)
+            self.add_name(name)
         return self.names.index(name)
+
+    def add_name(self, name):
+        self.names.append(name)
+
+    def add_range(self, low, high, names):
+        self.ranges.append((low, high, [self.intern(name) for name in names]))
+
+    def add_definition(self, name, definition):
+        self.intern(name)
+        self.definitions.append(definition)
 
     def range_line(self, body):
         first, *names = FIELDS_AT_WHITE.findall(body)
@@ -60,7 +77,7 @@ class Reading:
         if len(parts) > 2:
             raise Refused(4)
         bounds = [bound(part) for part in parts]
-        self.ranges.append((bounds[0], bounds[-1], [self.intern(name) for name in names]))
+        self.add_range(bounds[0], bounds[-1], names)
 
     def category_line(self, body):
         fields = FIELDS_AT_ASCII.findall(body)
@@ -69,8 +86,7 @@ class Reading:
         numbers = [unsigned(field) for field in fields[1:]]
         if None in numbers:
             raise Refused(8)
-        self.intern(fields[0])
-        self.definitions.append((int(numbers[0] == 1), int(numbers[1] == 1), numbers[2]))
+        self.add_definition(fields[0], (int(numbers[0] == 1), int(numbers[1] == 1), numbers[2]))
 
     def line(self, line):
         body = line.split("#")[0].strip(WHITE)
@@ -78,6 +94,12 @@ class Reading:
             self.range_line(body)
         elif body:
             self.category_line(body)
+
+    def references(self):
+        return sum(len(ids) for _, _, ids in self.ranges)
+
+    def name_bytes(self):
+        return sum(len(name.encode()) for name in self.names)
 
     def at(self, code):
         """The covering rule."""
@@ -101,6 +123,29 @@ class Reading:
         return sum(map(len, before[:-1])), len(before[-1])
 
 
+class Sized(Reading):
+    """Each limit is allowed, one more is refused: 9, 10, then names from the left, 12 before 13; 11, 12, 13."""
+
+    def add_range(self, low, high, names):
+        if len(self.ranges) == RANGES:
+            raise Refused(9)
+        if self.references() + len(names) > REFERENCES:
+            raise Refused(10)
+        super().add_range(low, high, names)
+
+    def add_definition(self, name, definition):
+        if len(self.definitions) == CATEGORY_LINES:
+            raise Refused(11)
+        super().add_definition(name, definition)
+
+    def add_name(self, name):
+        if len(self.names) == CATEGORIES:
+            raise Refused(12)
+        if self.name_bytes() + len(name.encode()) > NAME_BYTES:
+            raise Refused(13)
+        super().add_name(name)
+
+
 def read(lines, line_reader):
     """None, or the refusal at the first bad line."""
     for place, line in enumerate(lines, 1):
@@ -122,6 +167,18 @@ def row_word(row):
 def char_def(text):
     """The reading, or the refusal."""
     reading = Reading()
+    return read(text.split("\n"), reading.line) or reading
+
+
+def sized_char_def(data):
+    """The reading of any bytes within the sizes, or the refusal."""
+    if len(data) > TEXT_BYTES:
+        return "refused 2 0"
+    try:
+        text = data.decode("utf-8", "strict")
+    except UnicodeDecodeError as bad:
+        return f"refused 3 {bad.start}"
+    reading = Sized()
     return read(text.split("\n"), reading.line) or reading
 
 

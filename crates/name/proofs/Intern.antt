@@ -17,7 +17,7 @@ use Rattle.paper.specs.Tables.Lent.{padded, patch}
 use Rattle.paper.proofs.Lists.Facts.{T→true}
 use Rattle.paper.proofs.Lists.Seen.{same-refl}
 use Rattle.paper.proofs.Tables.Laws.{patch-in}
-use Rattle.paper.proofs.Tables.Trip.{joined-length}
+use Rattle.paper.proofs.Lists.Facts.{joined-length}
 use Rattle.paper.proofs.Tables.Append.{patch-padded, padded-length}
 use Rattle.name.specs.declared.Numbered.{Numbered}
 use Rattle.name.specs.declared.Found.the-variants.{At, Nothing}

@@ -12,13 +12,13 @@ use Rattle.paper.specs.Refusals.{tablesApart}
 use Rattle.paper.specs.Lists.{any}
 use Rattle.paper.specs.CharDef.Reading.{Reading}
 use Rattle.paper.specs.Rows.Lookup.{gives, refuses}
-use Rattle.paper.specs.Rows.Numbers.{slotWidth, nameSlotsOf, nameIn, pastStore, lowest, findName}
+use Rattle.paper.specs.Tables.Layout.{nameSlotSize}
+use Rattle.paper.specs.Rows.Numbers.{nameSlotsOf, nameIn, pastStore, lowestNamed, findName}
 use Rattle.paper.specs.Tables.Layout.{Tables}
-use Rattle.paper.specs.Tables.HandedIn.{HoldTogether}
+use Rattle.paper.specs.Tables.HandedIn.{HoldTogether, OfBytes}
 use Rattle.paper.specs.declared.Counts.{Counts}
 use Rattle.paper.proofs.Rows.Numbers.{name-found, name-back}
 use Rattle.paper.proofs.Tables.Holds.{handed-exactly}
-use Rattle.paper.proofs.Tables.Trip.{Bytes}
 use Rattle.name.specs.declared.Found.the-variants.{At, Nothing}
 use Rattle.name.specs.declared.CategoryFound.{CategoryFound}
 use Rattle.name.specs.declared.CategoryFound.the-variants.{Category, Absent, Refused}
@@ -28,23 +28,23 @@ use Rattle.name.specs.Lookup.{said, placeOf, FindsCategory}
 -- ---- the cases of `find_category`
 
 module _ (store table : List ℕ) (count : ℕ) (name : List ℕ) where
-  pub table-short : length table < slotWidth * count → refuses tablesApart ≡ findName store table count name
+  pub table-short : length table < nameSlotSize * count → refuses tablesApart ≡ findName store table count name
   unfolding findName
-  table-short h = rw (lt-ltb (length table) (slotWidth * count) h)
+  table-short h = rw (lt-ltb (length table) (nameSlotSize * count) h)
 
-  module _ (long : slotWidth * count ≤ length table) where
+  module _ (long : nameSlotSize * count ≤ length table) where
     pub name-past : any (pastStore store) (nameSlotsOf table count) ≡ true → refuses tablesApart ≡ findName store table count name
     unfolding findName
-    name-past e = rw (le-ltb (length table) (slotWidth * count) long, e)
+    name-past e = rw (le-ltb (length table) (nameSlotSize * count) long, e)
 
     module _ (e : any (pastStore store) (nameSlotsOf table count) ≡ false) where
       pub name-there : (i : ℕ) → Finds (map (nameIn store) (nameSlotsOf table count)) name (At i) → gives (some i) ≡ findName store table count name
-      unfolding findName lowest
-      name-there i (h, p) = rw (le-ltb (length table) (slotWidth * count) long, e, h) (ap (λ k. gives (some k)) p)
+      unfolding findName lowestNamed
+      name-there i (h, p) = rw (le-ltb (length table) (nameSlotSize * count) long, e, h) (ap (λ k. gives (some k)) p)
 
       pub name-absent : Finds (map (nameIn store) (nameSlotsOf table count)) name Nothing → gives none ≡ findName store table count name
-      unfolding findName lowest
-      name-absent h = rw (le-ltb (length table) (slotWidth * count) long, e, h)
+      unfolding findName lowestNamed
+      name-absent h = rw (le-ltb (length table) (nameSlotSize * count) long, e, h)
 
 -- what the answer of `names_inside` says
 pub some-past : (r b : Bool) → r ≡ not b → not r ≡ true → b ≡ true
@@ -74,9 +74,9 @@ module _ (store table : List ℕ) (count : ℕ) (name : List ℕ) (r : CategoryF
 
 -- ---- over tables in which a reading stands
 
-module _ (t : Tables) (n : Counts) (r : Reading) (b : Bytes t) (h : HoldTogether t n r) where
-  -- never 26; the lowest number with that name in the reading, or absent
-  pub finds-held : (name : List ℕ) (a : CategoryFound) → FindsCategory (t .names) (t .categories) (n .categories) name a → said a ≡ gives (lowest name (r .names))
+module _ (t : Tables) (n : Counts) (r : Reading) (b : OfBytes t) (h : HoldTogether t n r) where
+  -- never 26; the lowestNamed number with that name in the reading, or absent
+  pub finds-held : (name : List ℕ) (a : CategoryFound) → FindsCategory (t .names) (t .categories) (n .categories) name a → said a ≡ gives (lowestNamed name (r .names))
   finds-held name a f = f .answer ∙ name-found t n r (handed-exactly t n r b .1 h) name
 
   -- each name's own number

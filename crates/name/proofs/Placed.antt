@@ -10,7 +10,8 @@ use lib.ListN.{length, take, drop, length-take, length-drop}
 use lib.Seq.{take-all}
 use borrow.Author.Tests.{lt-ltb, le-ltb, ltb-false}
 use Rattle.paper.specs.Lists.{any, same}
-use Rattle.paper.specs.Rows.Numbers.{slotWidth, nameSlotsOf, nameIn, pastStore}
+use Rattle.paper.specs.Tables.Layout.{nameSlotSize}
+use Rattle.paper.specs.Rows.Numbers.{nameSlotsOf, nameIn, pastStore}
 use Rattle.paper.specs.Tables.Layout.{NameSlot, nameSlotOf}
 use Rattle.paper.specs.Tables.Lent.{got}
 use Rattle.paper.proofs.Tables.Laws.{left, left-all, left-none, left-more}
@@ -23,13 +24,13 @@ use Rattle.name.proofs.Search.{Searching, search-start, search-hit, sea
 
 -- the slots that a loop has left
 abbrev pub slotsLeft : List ℕ → ℕ → ℕ → List NameSlot
-slotsLeft l n i = map nameSlotOf (left slotWidth n i l)
+slotsLeft l n i = map nameSlotOf (left nameSlotSize n i l)
 
 abbrev slotAt : List ℕ → ℕ → NameSlot
-slotAt l i = nameSlotOf (entry slotWidth i l)
+slotAt l i = nameSlotOf (entry nameSlotSize i l)
 
 none-left : (l : List ℕ) (n i : ℕ) → n ≤ i → slotsLeft l n i ≡ []
-none-left l n i h = ap (map nameSlotOf) (left-none slotWidth n i l h)
+none-left l n i h = ap (map nameSlotOf) (left-none nameSlotSize n i l h)
 
 -- the name from its start to its end is the name
 whole-name : (store name : List ℕ) (start len : ℕ) → len ≡ length name
@@ -44,20 +45,20 @@ neither false b e = (refl, e)
 
 module _ (l : List ℕ) (n i : ℕ) (lt : i < n) where
   one-left : slotsLeft l n i ≡ slotAt l i ∷ slotsLeft l n (i + 1)
-  one-left = ap (map nameSlotOf) (left-more slotWidth n i l lt)
+  one-left = ap (map nameSlotOf) (left-more nameSlotSize n i l lt)
 
-  module _ (long : slotWidth * n ≤ length l) where
-    start-is : (start : ℕ) → start ≡ got 2 (slotWidth * i) l → start ≡ slotAt l i .start
-    start-is start e = e ∙ first-got 2 slotWidth i l (omega arith) (inside slotWidth i n l lt long)
+  module _ (long : nameSlotSize * n ≤ length l) where
+    start-is : (start : ℕ) → start ≡ got 2 (nameSlotSize * i) l → start ≡ slotAt l i .start
+    start-is start e = e ∙ first-got 2 nameSlotSize i l (omega arith) (inside nameSlotSize i n l lt long)
 
-    len-is : (len : ℕ) → len ≡ got 2 (slotWidth * i + 2) l → len ≡ slotAt l i .len
-    len-is len e = e ∙ field-got 2 2 slotWidth i l (omega arith) (inside slotWidth i n l lt long)
+    len-is : (len : ℕ) → len ≡ got 2 (nameSlotSize * i + 2) l → len ≡ slotAt l i .len
+    len-is len e = e ∙ field-got 2 2 nameSlotSize i l (omega arith) (inside nameSlotSize i n l lt long)
 
 -- ---- does a name run past the store?
 
 module _ (store l : List ℕ) (n : ℕ) where
   pub inside-begins : any (pastStore store) (slotsLeft l n 0) ≡ any (pastStore store) (nameSlotsOf l n)
-  inside-begins = ap (λ ps. any (pastStore store) (map nameSlotOf ps)) (left-all slotWidth n l)
+  inside-begins = ap (λ ps. any (pastStore store) (map nameSlotOf ps)) (left-all nameSlotSize n l)
 
   module _ (i : ℕ) (v : Bool) (inv : any (pastStore store) (slotsLeft l n i) ≡ v) where
     opened : i < n → (pastStore store (slotAt l i) || any (pastStore store) (slotsLeft l n (i + 1))) ≡ v
@@ -66,8 +67,8 @@ module _ (store l : List ℕ) (n : ℕ) where
     pub inside-ends : n ≤ i → true ≡ not v
     inside-ends h = ap not (sym (ap (any (pastStore store)) (none-left l n i h)) ∙ inv)
 
-    module _ (lt : i < n) (long : slotWidth * n ≤ length l) (start len : ℕ)
-        (es : start ≡ got 2 (slotWidth * i) l) (el : len ≡ got 2 (slotWidth * i + 2) l) where
+    module _ (lt : i < n) (long : nameSlotSize * n ≤ length l) (start len : ℕ)
+        (es : start ≡ got 2 (nameSlotSize * i) l) (el : len ≡ got 2 (nameSlotSize * i + 2) l) where
       past-is : slotAt l i .start + slotAt l i .len ≡ start + len
       past-is = sym (ap₂ (λ a b. a + b) (start-is l n i lt long start es) (len-is l n i lt long len el))
 
@@ -82,16 +83,16 @@ module _ (store l : List ℕ) (n : ℕ) where
 -- ---- the search
 
 pub record Placing (store l : List ℕ) (n : ℕ) (name : List ℕ) (i : ℕ) : Type 0 where
-  pub long : slotWidth * n ≤ length l
+  pub long : nameSlotSize * n ≤ length l
   pub none-past : any (pastStore store) (slotsLeft l n i) ≡ false
   pub seen : Searching (map (nameIn store) (nameSlotsOf l n)) name i (map (nameIn store) (slotsLeft l n i))
 
-pub place-start : (store l : List ℕ) (n : ℕ) (name : List ℕ) → slotWidth * n ≤ length l → any (pastStore store) (nameSlotsOf l n) ≡ false → Placing store l n name 0
+pub place-start : (store l : List ℕ) (n : ℕ) (name : List ℕ) → nameSlotSize * n ≤ length l → any (pastStore store) (nameSlotsOf l n) ≡ false → Placing store l n name 0
 place-start store l n name h e =
     record {
       long = h;
       none-past = inside-begins store l n ∙ e;
-      seen = rw (left-all slotWidth n l) (search-start (map (nameIn store) (nameSlotsOf l n)) name);
+      seen = rw (left-all nameSlotSize n l) (search-start (map (nameIn store) (nameSlotsOf l n)) name);
     }
 
 module _ {store l : List ℕ} {n : ℕ} {name : List ℕ} {i : ℕ} (z : Placing store l n name i) where
@@ -109,14 +110,14 @@ module _ {store l : List ℕ} {n : ℕ} {name : List ℕ} {i : ℕ} (z : Placing
     passed h = record { long = z .long; none-past = first .1; seen = search-on (z .seen) _ _ next h }
 
     -- a name of another length: its slot has the length of the name, since that does not run past the store
-    pub place-other : (len : ℕ) → len ≡ got 2 (slotWidth * i + 2) l → (len ≡ length name → ⊥) → Placing store l n name (i + 1)
+    pub place-other : (len : ℕ) → len ≡ got 2 (nameSlotSize * i + 2) l → (len ≡ length name → ⊥) → Placing store l n name (i + 1)
     place-other len el h =
         let p : slotAt l i .start + slotAt l i .len ≤ length store = ltb-false (length store) (slotAt l i .start + slotAt l i .len) (first .0) in
         let k : length (nameIn store (slotAt l i)) ≡ slotAt l i .len = simp (length-take, length-drop) (omega arith) in
         passed (differs name (nameIn store (slotAt l i)) (λ d. h (len-is l n i lt (z .long) len el ∙ sym k ∙ sym d)))
 
     -- a name of the same length k: its bytes decide
-    module _ (start len k : ℕ) (es : start ≡ got 2 (slotWidth * i) l) (el : len ≡ got 2 (slotWidth * i + 2) l) (whole : k ≡ length name)
+    module _ (start len k : ℕ) (es : start ≡ got 2 (nameSlotSize * i) l) (el : len ≡ got 2 (nameSlotSize * i + 2) l) (whole : k ≡ length name)
         (r : Bool) (er : r ≡ same (drop 0 (take k name)) (take (k - 0) (drop start store))) (e : len ≡ k) where
       is-name : r ≡ same name (nameIn store (slotAt l i))
       is-name =

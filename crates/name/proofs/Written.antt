@@ -15,7 +15,7 @@ use Rattle.paper.specs.Sizes.{maxCategories}
 use Rattle.paper.specs.Lists.{joined, sum}
 use Rattle.paper.specs.CharDef.Reading.{Reading, nameBytes}
 use Rattle.paper.specs.Numbers.Bytes.{le}
-use Rattle.paper.specs.Rows.Numbers.{slotWidth}
+use Rattle.paper.specs.Tables.Layout.{nameSlotSize}
 use Rattle.paper.specs.Tables.Layout.{nameSlotBytes, nameSlots, layout, inRoom}
 use Rattle.paper.specs.Tables.Lent.{patch, padded}
 use Rattle.paper.proofs.Tables.Laws.{table-length, patch-in, patch-out, patch-length}
@@ -28,11 +28,11 @@ use Rattle.name.proofs.Laid.{slots-length}
 abbrev entryBytes : ℕ → List ℕ
 entryBytes s = nameSlotBytes (wordSlot s)
 
-wide-entry : (s : ℕ) → length (entryBytes s) ≡ slotWidth
+wide-entry : (s : ℕ) → length (entryBytes s) ≡ nameSlotSize
 wide-entry s = wide-place (wordSlot s)
 
-entries-length : (m : ℕ) (slots : List ℕ) → m ≤ length slots → length (joined (map entryBytes (take m slots))) ≡ slotWidth * m
-entries-length m slots h = table-length slotWidth entryBytes wide-entry (take m slots) ∙ ap (λ k. slotWidth * k) (length-take-le m slots h)
+entries-length : (m : ℕ) (slots : List ℕ) → m ≤ length slots → length (joined (map entryBytes (take m slots))) ≡ nameSlotSize * m
+entries-length m slots h = table-length nameSlotSize entryBytes wide-entry (take m slots) ∙ ap (λ k. nameSlotSize * k) (length-take-le m slots h)
 
 -- ---- the loop
 
@@ -46,7 +46,7 @@ pub few-slots : (slots table : List ℕ) → length slots < maxCategories → ta
 unfolding written
 few-slots slots table h = sym (left-out maxCategories (length slots) (patch 0 (joined (map entryBytes (take maxCategories slots))) table) table h)
 
-pub no-room : (slots table : List ℕ) → maxCategories ≤ length slots → length table < slotWidth * maxCategories → table ≡ written slots table
+pub no-room : (slots table : List ℕ) → maxCategories ≤ length slots → length table < nameSlotSize * maxCategories → table ≡ written slots table
 unfolding written
 no-room slots table h g =
     let k : length table < 0 + length (joined (map entryBytes (take maxCategories slots))) = omega (arith, entries-length maxCategories slots h) in
@@ -56,15 +56,15 @@ no-room slots table h g =
 pub record Writing (m : ℕ) (slots table₀ table : List ℕ) (i : ℕ) : Type 0 where
   pub upto : i ≤ m
   pub enough : m ≤ length slots
-  pub room : slotWidth * m ≤ length table₀
+  pub room : nameSlotSize * m ≤ length table₀
   pub long : length table ≡ length table₀
   pub is : table ≡ patch 0 (joined (map entryBytes (take i slots))) table₀
 
-pub write-start : (m : ℕ) (slots table : List ℕ) → m ≤ length slots → slotWidth * m ≤ length table → Writing m slots table table 0
+pub write-start : (m : ℕ) (slots table : List ℕ) → m ≤ length slots → nameSlotSize * m ≤ length table → Writing m slots table table 0
 write-start m slots table h g = record { upto = omega arith; enough = h; room = g; long = refl; is = patch-in 0 [] table (omega arith) }
 
 module _ {m : ℕ} {slots table₀ table : List ℕ} {i : ℕ} (z : Writing m slots table₀ table i) (lt : i < m) where
-  pub write-on : (at start len : ℕ) (table₁ table₂ : List ℕ) → at ≡ slotWidth * i → start ≡ getD slots i 0 / slotUnit → len ≡ getD slots i 0 % slotUnit
+  pub write-on : (at start len : ℕ) (table₁ table₂ : List ℕ) → at ≡ nameSlotSize * i → start ≡ getD slots i 0 / slotUnit → len ≡ getD slots i 0 % slotUnit
       → table₁ ≡ patch at (le 2 start) table → table₂ ≡ patch (at + 2) (le 2 len) table₁ → Writing m slots table₀ table₂ (i + 1)
   write-on at start len table₁ table₂ a p q e f =
       let n = z .enough in
@@ -108,24 +108,24 @@ entries-back at (x ∷ names) h =
     let b : (at * slotUnit + length x) % slotUnit ≡ length x = omega arith in
     ap₂ (λ e l. e ++ l) (ap₂ (λ s n. le 2 s ++ le 2 n) a b) (entries-back (at + length x) names (omega arith))
 
-zero-entries : (k : ℕ) → joined (map entryBytes (replicate k 0)) ≡ replicate (slotWidth * k) 0
+zero-entries : (k : ℕ) → joined (map entryBytes (replicate k 0)) ≡ replicate (nameSlotSize * k) 0
 zero-entries zero = refl
 zero-entries (suc k) =
-    let e : suc (suc (suc (suc (slotWidth * k)))) ≡ slotWidth * suc k = omega arith in
+    let e : suc (suc (suc (suc (nameSlotSize * k)))) ≡ nameSlotSize * suc k = omega arith in
     ap (λ l. 0 ∷ 0 ∷ 0 ∷ 0 ∷ l) (zero-entries k) ∙ ap (λ n. replicate n 0) e
 
 module _ (m : ℕ) (names : List (List ℕ)) (few : length names ≤ m) (short : nameBytes names < slotUnit) where
   abbrev words : List ℕ
   words = map slotWord (nameSlots 0 (map length names))
 
-  all-entries : joined (map entryBytes (padded m words)) ≡ padded (slotWidth * m) (joined (map nameSlotBytes (nameSlots 0 (map length names))))
+  all-entries : joined (map entryBytes (padded m words)) ≡ padded (nameSlotSize * m) (joined (map nameSlotBytes (nameSlots 0 (map length names))))
   unfolding padded
   all-entries =
       let n = slots-length names in
       let b = entries-back 0 names short in
-      let l : length (joined (map entryBytes words)) ≡ slotWidth * length words = table-length slotWidth entryBytes wide-entry words in
-      let l′ : length (joined (map nameSlotBytes (nameSlots 0 (map length names)))) ≡ slotWidth * length words = ap length (sym b) ∙ l in
-      let e : slotWidth * (m - length words) ≡ slotWidth * m - length (joined (map nameSlotBytes (nameSlots 0 (map length names)))) = omega arith in
+      let l : length (joined (map entryBytes words)) ≡ nameSlotSize * length words = table-length nameSlotSize entryBytes wide-entry words in
+      let l′ : length (joined (map nameSlotBytes (nameSlots 0 (map length names)))) ≡ nameSlotSize * length words = ap length (sym b) ∙ l in
+      let e : nameSlotSize * (m - length words) ≡ nameSlotSize * m - length (joined (map nameSlotBytes (nameSlots 0 (map length names)))) = omega arith in
       table-append entryBytes words (replicate (m - length words) 0)
       ∙ ap₂ (λ x y. x ++ y) b (zero-entries (m - length words) ∙ ap (λ k. replicate k 0) e)
 
@@ -138,7 +138,7 @@ at-front p l n e h =
 
 -- THE THEOREM: written out at acceptance, the slots are the reading's category table in the room of its size; what stands behind it stays
 pub written-room : (r : Reading) (store slots : List ℕ) (count bytes : ℕ) (table : List ℕ) → Laid (r .names) store slots count bytes
-    → slotWidth * maxCategories ≤ length table → written slots table ≡ inRoom (layout r) .categories ++ drop (slotWidth * maxCategories) table
+    → nameSlotSize * maxCategories ≤ length table → written slots table ≡ inRoom (layout r) .categories ++ drop (nameSlotSize * maxCategories) table
 unfolding written inRoom layout
 written-room r store slots count bytes table z h =
     let c = z .count-is in
@@ -148,8 +148,8 @@ written-room r store slots count bytes table z h =
     let n : length (map slotWord (nameSlots 0 (map length (r .names)))) ≤ maxCategories = omega (arith, slots-length (r .names)) in
     let l : length slots ≡ maxCategories = ap length (z .slotted) ∙ padded-length maxCategories (map slotWord (nameSlots 0 (map length (r .names)))) n in
     let a : take maxCategories slots ≡ padded maxCategories (map slotWord (nameSlots 0 (map length (r .names)))) = take-all maxCategories slots (omega arith) ∙ z .slotted in
-    let e : joined (map entryBytes (take maxCategories slots)) ≡ padded (slotWidth * maxCategories) (joined (map nameSlotBytes (nameSlots 0 (map length (r .names))))) =
+    let e : joined (map entryBytes (take maxCategories slots)) ≡ padded (nameSlotSize * maxCategories) (joined (map nameSlotBytes (nameSlots 0 (map length (r .names))))) =
     ap (λ l. joined (map entryBytes l)) a ∙ all-entries maxCategories (r .names) (omega arith) (omega arith) in
     picked maxCategories (length slots) (patch 0 (joined (map entryBytes (take maxCategories slots))) table) table (omega arith)
-    ∙ at-front (joined (map entryBytes (take maxCategories slots))) table (slotWidth * maxCategories) (entries-length maxCategories slots (omega arith)) h
-    ∙ ap (λ p. p ++ drop (slotWidth * maxCategories) table) e
+    ∙ at-front (joined (map entryBytes (take maxCategories slots))) table (nameSlotSize * maxCategories) (entries-length maxCategories slots (omega arith)) h
+    ∙ ap (λ p. p ++ drop (nameSlotSize * maxCategories) table) e

@@ -13,7 +13,8 @@ ghost use mathlib.Core.List.{map};
 ghost use Prim.Native.Nat.{_+_, _*_, _-_, _/_, _%_, _≤_};
 ghost use lib.ListN.{length, take, drop};
 ghost use Rattle.paper.specs.Lists.{any, same};
-ghost use Rattle.paper.specs.Rows.Numbers.{slotWidth, nameSlotsOf, nameIn, pastStore};
+ghost use Rattle.paper.specs.Tables.Layout.{nameSlotSize};
+ghost use Rattle.paper.specs.Rows.Numbers.{nameSlotsOf, nameIn, pastStore};
 ghost use Rattle.paper.specs.Sizes.{maxNameBytes};
 ghost use Rattle.paper.specs.Tables.Lent.{patch};
 ghost use Rattle.name.specs.Slots.{slotUnit, written};
@@ -199,7 +200,7 @@ pub fn write_slots(slots: &[u32], categories: &mut [u8])
 
 // No category's name runs past the store.
 fn names_inside(names: &[u8], categories: &[u8], count: usize) -> bool
-    requires { ⌜ slotWidth * count ≤ length (now categories) ⌝ }
+    requires { ⌜ nameSlotSize * count ≤ length (now categories) ⌝ }
     ensures { λ r. ⌜ r ≡ not (any (pastStore (now (names .entry))) (nameSlotsOf (now (categories .entry)) count)) ⌝ }
 {
     let mut i = 0;
@@ -218,7 +219,7 @@ fn names_inside(names: &[u8], categories: &[u8], count: usize) -> bool
 
 // The lowest number with that name, where no category's name runs past the store.
 fn find_placed(names: &[u8], categories: &[u8], count: usize, name: &[u8]) -> Found
-    requires { ⌜ slotWidth * count ≤ length (now categories) ⌝ }
+    requires { ⌜ nameSlotSize * count ≤ length (now categories) ⌝ }
     requires { ⌜ any (pastStore (now names)) (nameSlotsOf (now categories) count) ≡ false ⌝ }
     ensures { λ r. ⌜ Finds (map (nameIn (now (names .entry))) (nameSlotsOf (now (categories .entry)) count)) (now (name .entry)) r ⌝ }
 {
