@@ -8,7 +8,7 @@ use lib.ListN.{length, drop, replicate, drop-of-length-le}
 use Rattle.paper.specs.Sizes.{maxCategories, maxNameBytes, maxCategoryLines, maxRanges, maxReferences}
 use Rattle.paper.specs.CharDef.Reading.{Reading, Answer, refused}
 use Rattle.paper.specs.Computed.ReadText.{nothingRead}
-use Rattle.paper.specs.Tables.Layout.{Tables, layout, inRoom, countsOf}
+use Rattle.paper.specs.Tables.Layout.{Tables, layout, inRoom, countsOf, nameSlotSize, definitionSize, rangeSlotSize, referenceSize}
 use Rattle.paper.specs.Tables.Lent.{padded}
 use Rattle.paper.specs.declared.Counts.{Counts}
 use Rattle.paper.proofs.Tables.Append.{padded-length}
@@ -26,19 +26,19 @@ module _ {t : Tables} (e : t ≡ inRoom noTables) where
   unfolding inRoom noTables
   names-zero = ap (λ u. u .names) e
 
-  pub categories-zero : t .categories ≡ padded (4 * maxCategories) []
+  pub categories-zero : t .categories ≡ padded (nameSlotSize * maxCategories) []
   unfolding inRoom noTables
   categories-zero = ap (λ u. u .categories) e
 
-  definitions-zero : t .definitions ≡ padded (6 * maxCategoryLines) []
+  definitions-zero : t .definitions ≡ padded (definitionSize * maxCategoryLines) []
   unfolding inRoom noTables
   definitions-zero = ap (λ u. u .definitions) e
 
-  ranges-zero : t .ranges ≡ padded (8 * maxRanges) []
+  ranges-zero : t .ranges ≡ padded (rangeSlotSize * maxRanges) []
   unfolding inRoom noTables
   ranges-zero = ap (λ u. u .ranges) e
 
-  references-zero : t .references ≡ padded (2 * maxReferences) []
+  references-zero : t .references ≡ padded (referenceSize * maxReferences) []
   unfolding inRoom noTables
   references-zero = ap (λ u. u .references) e
 
@@ -48,8 +48,8 @@ module _ {t : Tables} (e : t ≡ inRoom noTables) where
       (record { categories = 0; definitions = 0; ranges = 0; references = 0; bytes = 0 })
   fill-start slots s = held-nothing (t .names) slots (t .definitions) (t .ranges) (t .references) names-zero s definitions-zero ranges-zero references-zero
 
-  pub categories-long : length (t .categories) ≡ 4 * maxCategories
-  categories-long = ap length categories-zero ∙ padded-length (4 * maxCategories) [] (omega arith)
+  pub categories-long : length (t .categories) ≡ nameSlotSize * maxCategories
+  categories-long = ap length categories-zero ∙ padded-length (nameSlotSize * maxCategories) [] (omega arith)
 
 -- ---- after
 
@@ -63,18 +63,18 @@ module _ {r : Reading} {m : Memory} {c : Counts} (z : Held r m c) where
   counts-are =
       sym (counts-is c _ _ _ _ _ (sym (z .names .count-is)) (sym (z .definitions-are)) (sym (z .ranges-are)) (sym (z .references-are)) (sym (z .names .bytes-is)))
 
-  tables-are : (table categories : List ℕ) → length table ≡ 4 * maxCategories → categories ≡ written (m .slots) table
+  tables-are : (table categories : List ℕ) → length table ≡ nameSlotSize * maxCategories → categories ≡ written (m .slots) table
       → record { names = m .store; categories = categories; definitions = m .definitions; ranges = m .ranges; references = m .references } ≡ inRoom (layout r)
   unfolding inRoom layout
   tables-are table categories l e =
-      let short : length table ≤ 4 * maxCategories = omega arith in
-      let none : drop (4 * maxCategories) table ≡ [] = drop-of-length-le table short in
+      let short : length table ≤ nameSlotSize * maxCategories = omega arith in
+      let none : drop (nameSlotSize * maxCategories) table ≡ [] = drop-of-length-le table short in
       tables-is (inRoom (layout r)) _ _ _ _ _ (z .names .stored)
       (e ∙ written-room r (m .store) (m .slots) (c .categories) (c .bytes) table (z .names) (omega arith)
       ∙ ap (λ x. inRoom (layout r) .categories ++ x) none ∙ append-nil (inRoom (layout r) .categories))
       (z .in-definitions) (z .in-ranges) (z .in-references)
 
-pub filled : {a : Answer} {m : Memory} {c : Counts} → WalkEnded a m c → (table categories : List ℕ) → length table ≡ 4 * maxCategories
+pub filled : {a : Answer} {m : Memory} {c : Counts} → WalkEnded a m c → (table categories : List ℕ) → length table ≡ nameSlotSize * maxCategories
     → categories ≡ written (m .slots) table
     → LinesAccepted a (record { names = m .store; categories = categories; definitions = m .definitions; ranges = m .ranges; references = m .references }) c
 filled w table categories l e =

@@ -16,7 +16,8 @@ use Rattle.text.specs.Answers.{whiteWidth}
 use Rattle.line.specs.Marks.{Mark, marks, marksFrom, gapWidth, inGap, hashMark, lineBytes, inBytes}
 use Rattle.line.proofs.LineBridge.{line-bridge}
 use Rattle.line.specs.declared.Part.{Part}
-use Rattle.line.specs.Answer.{Inside, gapRun, wordRun, solid, wordPart, bodyPart, bytesOf, said, Says}
+use Rattle.line.specs.Asked.{Inside}
+use Rattle.line.specs.Answer.{gapRun, wordRun, solid, wordPart, bodyPart, bytesOf, said, Says}
 use Rattle.line.specs.declared.CategoryLine.{CategoryLine}
 use Rattle.line.specs.declared.RangeLine.{RangeLine}
 use Rattle.line.specs.declared.LineAnswer.{LineAnswer}

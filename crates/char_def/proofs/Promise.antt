@@ -17,12 +17,12 @@ use Rattle.paper.specs.CharDef.Reading.{Reading, Fits, Answer, accepted, refuse
 use Rattle.paper.specs.CharDef.Bad.{BadText}
 use Rattle.paper.specs.Computed.HandedIn.{handedIn}
 use Rattle.paper.specs.Computed.ReadText.{readText}
-use Rattle.paper.specs.Tables.Layout.{Tables, layout, inRoom, behind, countsOf}
+use Rattle.paper.specs.Tables.Layout.{Tables, layout, inRoom, behind, countsOf, nameSlotSize, definitionSize, rangeSlotSize, referenceSize}
 use Rattle.paper.specs.Tables.Lent.{zeroed, padded}
 use Rattle.paper.specs.declared.Counts.{Counts}
 use Rattle.paper.proofs.CharDef.Accepts.{accepted-fits, fits-accepted}
 use Rattle.paper.proofs.CharDef.Answers.{refused-text}
-use Rattle.paper.proofs.CharDef.Sound.{zero-one}
+use Rattle.paper.proofs.Apart.{zero-one}
 use Rattle.paper.proofs.Pack.Kept.{fits-rules}
 use Rattle.paper.proofs.Tables.Append.{padded-length}
 use Rattle.paper.proofs.Tables.Room.{layout-fits}
@@ -107,18 +107,18 @@ more : Tables → Tables → Tables
 more t x =
     record {
       names = zeros maxNameBytes (t .names) ++ x .names;
-      categories = zeros (4 * maxCategories) (t .categories) ++ x .categories;
-      definitions = zeros (6 * maxCategoryLines) (t .definitions) ++ x .definitions;
-      ranges = zeros (8 * maxRanges) (t .ranges) ++ x .ranges;
-      references = zeros (2 * maxReferences) (t .references) ++ x .references;
+      categories = zeros (nameSlotSize * maxCategories) (t .categories) ++ x .categories;
+      definitions = zeros (definitionSize * maxCategoryLines) (t .definitions) ++ x .definitions;
+      ranges = zeros (rangeSlotSize * maxRanges) (t .ranges) ++ x .ranges;
+      references = zeros (referenceSize * maxReferences) (t .references) ++ x .references;
     }
 
 room-behind : (t x : Tables) → behind (inRoom t) x ≡ behind t (more t x)
 unfolding behind inRoom more
 room-behind t x =
-    tables-is (behind t (more t x)) _ _ _ _ _ (padded-behind maxNameBytes (t .names) (x .names)) (padded-behind (4 * maxCategories) (t .categories) (x .categories))
-    (padded-behind (6 * maxCategoryLines) (t .definitions) (x .definitions)) (padded-behind (8 * maxRanges) (t .ranges) (x .ranges))
-    (padded-behind (2 * maxReferences) (t .references) (x .references))
+    tables-is (behind t (more t x)) _ _ _ _ _ (padded-behind maxNameBytes (t .names) (x .names)) (padded-behind (nameSlotSize * maxCategories) (t .categories) (x .categories))
+    (padded-behind (definitionSize * maxCategoryLines) (t .definitions) (x .definitions)) (padded-behind (rangeSlotSize * maxRanges) (t .ranges) (x .ranges))
+    (padded-behind (referenceSize * maxReferences) (t .references) (x .references))
 
 -- handed in, the tables and the counts of an acceptance give back the reading that fits the text
 pub handed-back : {text : List ℕ} {lent after : Tables} {n : Counts} → hasRoom lent ≡ true → Parsed text lent after (Accepted n)
@@ -144,17 +144,17 @@ unfolding past behind inRoom
 past-filled lent q f =
     let w = layout-fits q (f .within) in
     tables-is (past lent) _ _ _ _ _ (past-padded maxNameBytes (layout q .names) (past lent .names) (w .names))
-    (past-padded (4 * maxCategories) (layout q .categories) (past lent .categories) (w .categories))
-    (past-padded (6 * maxCategoryLines) (layout q .definitions) (past lent .definitions) (w .definitions))
-    (past-padded (8 * maxRanges) (layout q .ranges) (past lent .ranges) (w .ranges))
-    (past-padded (2 * maxReferences) (layout q .references) (past lent .references) (w .references))
+    (past-padded (nameSlotSize * maxCategories) (layout q .categories) (past lent .categories) (w .categories))
+    (past-padded (definitionSize * maxCategoryLines) (layout q .definitions) (past lent .definitions) (w .definitions))
+    (past-padded (rangeSlotSize * maxRanges) (layout q .ranges) (past lent .ranges) (w .ranges))
+    (past-padded (referenceSize * maxReferences) (layout q .references) (past lent .references) (w .references))
 
 past-cleared : (lent : Tables) → RoomIn lent → past (cleared lent) ≡ past lent
 unfolding past cleared
 past-cleared lent h =
-    tables-is (past lent) _ _ _ _ _ (past-zero maxNameBytes (lent .names) (h .for-names)) (past-zero (4 * maxCategories) (lent .categories) (h .for-categories))
-    (past-zero (6 * maxCategoryLines) (lent .definitions) (h .for-definitions)) (past-zero (8 * maxRanges) (lent .ranges) (h .for-ranges))
-    (past-zero (2 * maxReferences) (lent .references) (h .for-references))
+    tables-is (past lent) _ _ _ _ _ (past-zero maxNameBytes (lent .names) (h .for-names)) (past-zero (nameSlotSize * maxCategories) (lent .categories) (h .for-categories))
+    (past-zero (definitionSize * maxCategoryLines) (lent .definitions) (h .for-definitions)) (past-zero (rangeSlotSize * maxRanges) (lent .ranges) (h .for-ranges))
+    (past-zero (referenceSize * maxReferences) (lent .references) (h .for-references))
 
 pub past-kept : {text : List ℕ} {lent after : Tables} {r : Outcome} → Parsed text lent after r → past after ≡ past lent
 past-kept {text} {lent} {after} {r} p = by-room (hasRoom lent) refl

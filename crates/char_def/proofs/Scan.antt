@@ -12,6 +12,7 @@ use lib.ListN.{length, take, drop, getD, length-drop, drop-of-length-le}
 use lib.Seq.{drop-cons, drop-drop}
 use borrow.Author.Tests.{le-leb, lt-leb, ltb-true, ltb-false, ne-eqb}
 use Rattle.paper.specs.Lists.{until, cut, push}
+use Rattle.paper.specs.Text.Scalar.{lf}
 use Rattle.paper.specs.CharDef.Reading.{isLF}
 use Rattle.paper.proofs.Lists.Parts.{take-part}
 use Rattle.char_def.specs.Lines.{linesFrom}
@@ -27,14 +28,14 @@ pub seek-start : (text : List ℕ) (start : ℕ) → Seeking text start start
 seek-start text start = record { order = omega arith; is = refl }
 
 module _ {text : List ℕ} {start at : ℕ} (z : Seeking text start at) where
-  pub seek-found : at < length text → getD text at 0 ≡ 10 → at ≡ start + length (until isLF (drop start text))
+  pub seek-found : at < length text → getD text at 0 ≡ lf → at ≡ start + length (until isLF (drop start text))
   seek-found h e =
       let a : length (until isLF (drop at text)) ≡ 0
       = ap (λ l. length (until isLF l)) (drop-cons text at 0 h) ∙ ap (λ b. length (until isLF (b ∷ drop (suc at) text))) e in
       let i = z .is in
       omega arith
 
-  pub seek-on : at < length text → (getD text at 0 ≡ 10 → ⊥) → Seeking text start (at + 1)
+  pub seek-on : at < length text → (getD text at 0 ≡ lf → ⊥) → Seeking text start (at + 1)
   seek-on h n =
       let a : length (until isLF (drop at text)) ≡ suc (length (until isLF (drop (at + 1) text)))
       = ap (λ l. length (until isLF l)) (drop-cons text at 0 h) ∙ go (getD text at 0) n ∙ ap (λ k. suc (length (until isLF (drop k text)))) (sym (add-one at)) in
@@ -42,8 +43,8 @@ module _ {text : List ℕ} {start at : ℕ} (z : Seeking text start at) where
       let o = z .order in
       record { order = omega arith; is = omega arith }
     where
-      go : (b : ℕ) → (b ≡ 10 → ⊥) → length (until isLF (b ∷ drop (suc at) text)) ≡ suc (length (until isLF (drop (suc at) text)))
-      go b n = rw (ne-eqb b 10 n)
+      go : (b : ℕ) → (b ≡ lf → ⊥) → length (until isLF (b ∷ drop (suc at) text)) ≡ suc (length (until isLF (drop (suc at) text)))
+      go b n = rw (ne-eqb b lf n)
 
   pub seek-end : length text ≤ at → at ≡ start + length (until isLF (drop start text))
   seek-end h =

@@ -12,7 +12,7 @@ use lib.Seq.{length-take-le}
 use mir.Facts.{and-yes, yes-and, yes-leb, leb-yes}
 use borrow.Author.Tests.{le-leb}
 use Rattle.paper.specs.Sizes.{maxCategories, maxNameBytes, maxCategoryLines, maxRanges, maxReferences}
-use Rattle.paper.specs.Tables.Layout.{Tables, inRoom}
+use Rattle.paper.specs.Tables.Layout.{Tables, inRoom, nameSlotSize, definitionSize, rangeSlotSize, referenceSize}
 use Rattle.paper.specs.Tables.Lent.{zeroed, padded}
 use Rattle.paper.proofs.Lists.Facts.{T→true}
 use Rattle.paper.proofs.Tables.Trip.{tables-is}
@@ -23,10 +23,10 @@ use Rattle.char_def.specs.Parse.{roomFor, hasRoom}
 
 pub record Room (names categories definitions ranges references : ℕ) : Type 0 where
   pub for-names : maxNameBytes ≤ names
-  pub for-categories : 4 * maxCategories ≤ categories
-  pub for-definitions : 6 * maxCategoryLines ≤ definitions
-  pub for-ranges : 8 * maxRanges ≤ ranges
-  pub for-references : 2 * maxReferences ≤ references
+  pub for-categories : nameSlotSize * maxCategories ≤ categories
+  pub for-definitions : definitionSize * maxCategoryLines ≤ definitions
+  pub for-ranges : rangeSlotSize * maxRanges ≤ ranges
+  pub for-references : referenceSize * maxReferences ≤ references
 
 false-is : (b : Bool) → (T b → ⊥) → false ≡ b
 false-is true f = absurd (f tt)
@@ -37,9 +37,9 @@ module _ (a b c d e : ℕ) where
   unfolding roomFor
   room-says t =
       let x = and-yes (leb maxNameBytes a) _ t in
-      let y = and-yes (leb (4 * maxCategories) b) _ (x .1) in
-      let z = and-yes (leb (6 * maxCategoryLines) c) _ (y .1) in
-      let w = and-yes (leb (8 * maxRanges) d) (leb (2 * maxReferences) e) (z .1) in
+      let y = and-yes (leb (nameSlotSize * maxCategories) b) _ (x .1) in
+      let z = and-yes (leb (definitionSize * maxCategoryLines) c) _ (y .1) in
+      let w = and-yes (leb (rangeSlotSize * maxRanges) d) (leb (referenceSize * maxReferences) e) (z .1) in
       record {
         for-names = leb-yes (x .0);
         for-categories = leb-yes (y .0);
@@ -56,9 +56,9 @@ module _ (a b c d e : ℕ) where
   has-room h =
       sym (T→true _
       (yes-and (leb maxNameBytes a) _ (yes-leb (h .for-names))
-      (yes-and (leb (4 * maxCategories) b) _ (yes-leb (h .for-categories))
-      (yes-and (leb (6 * maxCategoryLines) c) _ (yes-leb (h .for-definitions))
-      (yes-and (leb (8 * maxRanges) d) (leb (2 * maxReferences) e) (yes-leb (h .for-ranges)) (yes-leb (h .for-references)))))))
+      (yes-and (leb (nameSlotSize * maxCategories) b) _ (yes-leb (h .for-categories))
+      (yes-and (leb (definitionSize * maxCategoryLines) c) _ (yes-leb (h .for-definitions))
+      (yes-and (leb (rangeSlotSize * maxRanges) d) (leb (referenceSize * maxReferences) e) (yes-leb (h .for-ranges)) (yes-leb (h .for-references)))))))
 
   pub room-is : true ≡ roomFor a b c d e → Room a b c d e
   room-is h = room-says (subst T h tt)
@@ -93,18 +93,18 @@ part-long n l h = sym (length-take-le n l h)
 pub parts-sized : (t : Tables) → RoomIn t
     → Sized (record {
       names = take maxNameBytes (t .names);
-      categories = take (4 * maxCategories) (t .categories);
-      definitions = take (6 * maxCategoryLines) (t .definitions);
-      ranges = take (8 * maxRanges) (t .ranges);
-      references = take (2 * maxReferences) (t .references);
+      categories = take (nameSlotSize * maxCategories) (t .categories);
+      definitions = take (definitionSize * maxCategoryLines) (t .definitions);
+      ranges = take (rangeSlotSize * maxRanges) (t .ranges);
+      references = take (referenceSize * maxReferences) (t .references);
     })
 parts-sized t h =
     record {
       names = length-take-le maxNameBytes (t .names) (h .for-names);
-      categories = length-take-le (4 * maxCategories) (t .categories) (h .for-categories);
-      definitions = length-take-le (6 * maxCategoryLines) (t .definitions) (h .for-definitions);
-      ranges = length-take-le (8 * maxRanges) (t .ranges) (h .for-ranges);
-      references = length-take-le (2 * maxReferences) (t .references) (h .for-references);
+      categories = length-take-le (nameSlotSize * maxCategories) (t .categories) (h .for-categories);
+      definitions = length-take-le (definitionSize * maxCategoryLines) (t .definitions) (h .for-definitions);
+      ranges = length-take-le (rangeSlotSize * maxRanges) (t .ranges) (h .for-ranges);
+      references = length-take-le (referenceSize * maxReferences) (t .references) (h .for-references);
     }
 
 -- ---- zero in every place
@@ -119,11 +119,11 @@ zero-padded n l e =
     (ap (λ x. replicate n 0 ++ x) (drop-of-length-le l g) ∙ append-nil (replicate n 0) ∙ ap (λ m. replicate m 0) k)
 
 pub all-zero : (t : Tables) → Sized t → (a b c d e : List ℕ)
-    → a ≡ zeroed maxNameBytes (t .names) → b ≡ zeroed (4 * maxCategories) (t .categories) → c ≡ zeroed (6 * maxCategoryLines) (t .definitions)
-    → d ≡ zeroed (8 * maxRanges) (t .ranges) → e ≡ zeroed (2 * maxReferences) (t .references)
+    → a ≡ zeroed maxNameBytes (t .names) → b ≡ zeroed (nameSlotSize * maxCategories) (t .categories) → c ≡ zeroed (definitionSize * maxCategoryLines) (t .definitions)
+    → d ≡ zeroed (rangeSlotSize * maxRanges) (t .ranges) → e ≡ zeroed (referenceSize * maxReferences) (t .references)
     → record { names = a; categories = b; definitions = c; ranges = d; references = e } ≡ inRoom noTables
 unfolding inRoom noTables
 all-zero t z a b c d e p q r s u =
-    tables-is (inRoom noTables) a b c d e (p ∙ zero-padded maxNameBytes _ (z .names)) (q ∙ zero-padded (4 * maxCategories) _ (z .categories))
-    (r ∙ zero-padded (6 * maxCategoryLines) _ (z .definitions)) (s ∙ zero-padded (8 * maxRanges) _ (z .ranges))
-    (u ∙ zero-padded (2 * maxReferences) _ (z .references))
+    tables-is (inRoom noTables) a b c d e (p ∙ zero-padded maxNameBytes _ (z .names)) (q ∙ zero-padded (nameSlotSize * maxCategories) _ (z .categories))
+    (r ∙ zero-padded (definitionSize * maxCategoryLines) _ (z .definitions)) (s ∙ zero-padded (rangeSlotSize * maxRanges) _ (z .ranges))
+    (u ∙ zero-padded (referenceSize * maxReferences) _ (z .references))

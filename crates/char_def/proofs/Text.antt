@@ -9,7 +9,7 @@ use Rattle.paper.specs.Text.Scalar.{utf8}
 use Rattle.paper.specs.CharDef.Reading.{Reading, nameBytes, references}
 use Rattle.paper.specs.CharDef.Reading.{Answer, accepted, refused}
 use Rattle.paper.specs.Computed.ReadText.{Step, go-on, stop, afterLine, verdict, readLines, nothingRead}
-use Rattle.paper.specs.Tables.Layout.{nameSlots, rangeSlots}
+use Rattle.paper.specs.Tables.Layout.{nameSlots, rangeSlots, definitionSize, rangeSlotSize, referenceSize}
 use Rattle.paper.specs.Tables.Lent.{padded}
 use Rattle.line.specs.Marks.{lineBytes}
 use Rattle.char_def.specs.Steps.{enterFoundBytes, Held}
@@ -34,8 +34,8 @@ unfolding padded
 none-padded n = let e : n ≡ n - 0 = omega arith in ap (λ (k : ℕ). replicate {A = ℕ} k 0) e
 
 -- zero memory of the sizes holds nothing
-pub held-nothing : (a b c d e : List ℕ) → a ≡ padded maxNameBytes [] → b ≡ replicate maxCategories 0 → c ≡ padded (6 * maxCategoryLines) []
-    → d ≡ padded (8 * maxRanges) [] → e ≡ padded (2 * maxReferences) []
+pub held-nothing : (a b c d e : List ℕ) → a ≡ padded maxNameBytes [] → b ≡ replicate maxCategories 0 → c ≡ padded (definitionSize * maxCategoryLines) []
+    → d ≡ padded (rangeSlotSize * maxRanges) [] → e ≡ padded (referenceSize * maxReferences) []
     → Held nothingRead (record { store = a; slots = b; definitions = c; ranges = d; references = e })
     (record { categories = 0; definitions = 0; ranges = 0; references = 0; bytes = 0 })
 unfolding nothingRead nameBytes references nameSlots rangeSlots

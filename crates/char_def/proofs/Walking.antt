@@ -6,19 +6,20 @@ use native.Mathlib.Omega.{arith}
 use mathlib.Core.Path.{_≡_, refl, sym, ap, ap₂, _∙_}
 use mathlib.Core.List.{List, [], _∷_, map}
 use lib.ListN.{length, take, drop, length-map}
-use Rattle.paper.specs.Sizes.{maxCategories, maxNameBytes, maxCategoryLines, maxRanges, maxReferences}
+use Rattle.paper.specs.Sizes.{maxTextBytes, maxCategories, maxNameBytes, maxCategoryLines, maxRanges, maxReferences}
 use Rattle.paper.specs.Lists.{joined, until, cut}
 use Rattle.paper.specs.Numbers.Bytes.{le}
 use Rattle.paper.specs.CharDef.Reading.{Reading, Answer, accepted, refused, nameBytes, isLF}
 use Rattle.paper.specs.Computed.ReadText.{Step, go-on, stop, afterLine, nothingRead}
-use Rattle.paper.specs.Tables.Layout.{nameSlots, rangeSlots, definitionBytes, slotBytes, numbersOf}
+use Rattle.paper.specs.Tables.Layout.{nameSlots, rangeSlots, definitionBytes, slotBytes, numbersOf, definitionSize, rangeSlotSize, referenceSize}
 use Rattle.paper.specs.Tables.Lent.{padded}
 use Rattle.paper.specs.declared.Counts.{Counts}
+use Rattle.paper.proofs.Lists.Facts.{joined-length}
 use Rattle.paper.proofs.Tables.Append.{padded-length}
 use Rattle.paper.proofs.Tables.Laws.{table-length}
-use Rattle.paper.proofs.Tables.Trip.{joined-length, places-length, rows-length, numbers-length, wide-definition, wide-row, wide-number}
+use Rattle.paper.proofs.Tables.Trip.{places-length, rows-length, numbers-length, wide-definition, wide-row, wide-number}
 use Rattle.line.specs.Marks.{lineBytes}
-use Rattle.line.specs.Answer.{Inside}
+use Rattle.line.specs.Asked.{Inside}
 use Rattle.name.specs.Slots.{slotWord}
 use Rattle.char_def.specs.declared.Refusal.{Refusal}
 use Rattle.char_def.specs.Steps.{Memory, Held, Working, Went, enterFoundBytes}
@@ -46,28 +47,28 @@ module _ {r : Reading} {m : Memory} {c : Counts} (z : Held r m c) where
       let d = l .count-is in
       ap length (l .slotted) ∙ padded-length maxCategories (map slotWord (nameSlots 0 (map length (r .names)))) (omega arith)
 
-  pub definitions-long : length (m .definitions) ≡ 6 * maxCategoryLines
+  pub definitions-long : length (m .definitions) ≡ definitionSize * maxCategoryLines
   definitions-long =
       let a = table-length 6 definitionBytes wide-definition (r .definitions) in
       let b = z .definitions-few in
       let d = z .definitions-are in
-      ap length (z .in-definitions) ∙ padded-length (6 * maxCategoryLines) (joined (map definitionBytes (r .definitions))) (omega arith)
+      ap length (z .in-definitions) ∙ padded-length (definitionSize * maxCategoryLines) (joined (map definitionBytes (r .definitions))) (omega arith)
 
-  pub ranges-long : length (m .ranges) ≡ 8 * maxRanges
+  pub ranges-long : length (m .ranges) ≡ rangeSlotSize * maxRanges
   ranges-long =
       let a = table-length 8 slotBytes wide-row (rangeSlots 0 (r .ranges)) in
       let e = rows-length 0 (r .ranges) in
       let b = z .ranges-few in
       let d = z .ranges-are in
-      ap length (z .in-ranges) ∙ padded-length (8 * maxRanges) (joined (map slotBytes (rangeSlots 0 (r .ranges)))) (omega arith)
+      ap length (z .in-ranges) ∙ padded-length (rangeSlotSize * maxRanges) (joined (map slotBytes (rangeSlots 0 (r .ranges)))) (omega arith)
 
-  pub references-long : length (m .references) ≡ 2 * maxReferences
+  pub references-long : length (m .references) ≡ referenceSize * maxReferences
   references-long =
       let a = table-length 2 (le 2) wide-number (numbersOf (r .ranges)) in
       let e = numbers-length (r .ranges) in
       let b = z .references-few in
       let d = z .references-are in
-      ap length (z .in-references) ∙ padded-length (2 * maxReferences) (joined (map (le 2) (numbersOf (r .ranges)))) (omega arith)
+      ap length (z .in-references) ∙ padded-length (referenceSize * maxReferences) (joined (map (le 2) (numbersOf (r .ranges)))) (omega arith)
 
   pub working : Working m c
   working =
@@ -84,7 +85,7 @@ module _ {r : Reading} {m : Memory} {c : Counts} (z : Held r m c) where
 -- ---- the loop
 
 pub record Walking (text : List ℕ) (m : Memory) (c : Counts) (line at : ℕ) : Type 0 where
-  pub small : length text ≤ 65536
+  pub small : length text ≤ maxTextBytes
   pub upto : at ≤ length text + 1
   pub counted : line ≤ at + 1
   pub reading : Reading
@@ -94,7 +95,7 @@ pub record Walking (text : List ℕ) (m : Memory) (c : Counts) (line at : ℕ) :
 abbrev noCounts : Counts
 noCounts = record { categories = 0; definitions = 0; ranges = 0; references = 0; bytes = 0 }
 
-pub walk-start : (text : List ℕ) (m : Memory) → length text ≤ 65536 → Held nothingRead m noCounts → Walking text m noCounts 1 0
+pub walk-start : (text : List ℕ) (m : Memory) → length text ≤ maxTextBytes → Held nothingRead m noCounts → Walking text m noCounts 1 0
 unfolding readAll
 walk-start text m s h =
     record { small = s; upto = omega arith; counted = omega arith; reading = nothingRead; held = h; gives = ap (λ ls. readBytes 1 ls nothingRead) (lines-all text) }

@@ -18,14 +18,14 @@ use Rattle.paper.specs.CharDef.Reading.{Reading, Answer, accepted, refused, isL
 use Rattle.paper.specs.CharDef.Bad.{BadText, too-long, ill-formed, bad-line}
 use Rattle.paper.specs.Computed.Decode.{chars, decode}
 use Rattle.paper.specs.Computed.ReadText.{readLines, nothingRead, readChars, readText}
-use Rattle.paper.specs.Tables.Layout.{Tables, layout, inRoom, behind, countsOf}
+use Rattle.paper.specs.Tables.Layout.{Tables, layout, inRoom, behind, countsOf, nameSlotSize, definitionSize, rangeSlotSize, referenceSize}
 use Rattle.paper.specs.Tables.Lent.{zeroed, padded}
 use Rattle.paper.specs.declared.Counts.{Counts}
 use Rattle.paper.proofs.Text.Bytes.{cut-utf8}
-use Rattle.paper.proofs.Text.Code.{decode-complete}
+use Rattle.paper.proofs.Text.Code.{decode-complete, well-formed}
 use Rattle.paper.proofs.CharDef.FirstBad.{LF-ascii}
 use Rattle.paper.proofs.CharDef.BadLine.{bad-number}
-use Rattle.paper.proofs.CharDef.Answers.{well-encoded, refused-text, too-long-exactly, ill-formed-exactly}
+use Rattle.paper.proofs.CharDef.Answers.{refused-text, too-long-exactly, ill-formed-exactly}
 use Rattle.paper.proofs.Tables.Trip.{tables-is}
 use Rattle.char_def.specs.declared.Outcome.{Outcome}
 use Rattle.char_def.specs.declared.Outcome.the-variants.{Accepted, Refused}
@@ -41,7 +41,7 @@ module _ (text : List ℕ) where
   read-text : length text ≤ maxTextBytes → WellFormed text → readText text ≡ readAll text
   unfolding readText readChars readAll decode
   read-text h w =
-      let (cs, e, sc) = well-encoded text .0 w in
+      let (cs, e, sc) = well-formed text .0 w in
       let d : decode text ≡ chars cs = ap decode e ∙ decode-complete cs 0 sc in
       rw (le-ltb maxTextBytes (length text) h)
       (ap readChars d ∙ sym (read-bytes 1 (cut isLF cs) nothingRead)
@@ -78,9 +78,9 @@ zero-past n l h =
 cleared-is : (t : Tables) → RoomIn t → behind (inRoom noTables) (past t) ≡ cleared t
 unfolding behind inRoom noTables past cleared
 cleared-is t h =
-    tables-is (cleared t) _ _ _ _ _ (zero-past maxNameBytes (t .names) (h .for-names)) (zero-past (4 * maxCategories) (t .categories) (h .for-categories))
-    (zero-past (6 * maxCategoryLines) (t .definitions) (h .for-definitions)) (zero-past (8 * maxRanges) (t .ranges) (h .for-ranges))
-    (zero-past (2 * maxReferences) (t .references) (h .for-references))
+    tables-is (cleared t) _ _ _ _ _ (zero-past maxNameBytes (t .names) (h .for-names)) (zero-past (nameSlotSize * maxCategories) (t .categories) (h .for-categories))
+    (zero-past (definitionSize * maxCategoryLines) (t .definitions) (h .for-definitions)) (zero-past (rangeSlotSize * maxRanges) (t .ranges) (h .for-ranges))
+    (zero-past (referenceSize * maxReferences) (t .references) (h .for-references))
 
 -- ---- the ways through
 
@@ -130,10 +130,10 @@ module _ (text : List ℕ) (t : Tables) where
         → Parsed text t
         (record {
           names = part .names ++ drop maxNameBytes (t .names);
-          categories = part .categories ++ drop (4 * maxCategories) (t .categories);
-          definitions = part .definitions ++ drop (6 * maxCategoryLines) (t .definitions);
-          ranges = part .ranges ++ drop (8 * maxRanges) (t .ranges);
-          references = part .references ++ drop (2 * maxReferences) (t .references);
+          categories = part .categories ++ drop (nameSlotSize * maxCategories) (t .categories);
+          definitions = part .definitions ++ drop (definitionSize * maxCategoryLines) (t .definitions);
+          ranges = part .ranges ++ drop (rangeSlotSize * maxRanges) (t .ranges);
+          references = part .references ++ drop (referenceSize * maxReferences) (t .references);
         }) r
     unfolding behind past
     lines-parsed h w part r z = lines-read h w part (behind part (past t)) refl r z

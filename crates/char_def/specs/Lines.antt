@@ -10,7 +10,7 @@ use Rattle.paper.specs.Sizes.{maxTextBytes, maxCategories, maxNameBytes, maxCat
 use Rattle.paper.specs.Lists.{cut}
 use Rattle.paper.specs.CharDef.Reading.{Reading, Answer, accepted, refused, isLF}
 use Rattle.paper.specs.Computed.ReadText.{afterLine, nothingRead}
-use Rattle.paper.specs.Tables.Layout.{Tables, layout, inRoom, countsOf}
+use Rattle.paper.specs.Tables.Layout.{Tables, layout, inRoom, countsOf, nameSlotSize, definitionSize, rangeSlotSize, referenceSize}
 use Rattle.paper.specs.declared.Counts.{Counts}
 use Rattle.line.specs.Marks.{lineBytes}
 use Rattle.char_def.specs.declared.Outcome.{Outcome}
@@ -49,10 +49,10 @@ Walked a m (Stopped x) = a ≡ refused (x .number) (x .place)
 
 pub record Sized (t : Tables) : Type 0 where
   pub names : length (t .names) ≡ maxNameBytes
-  pub categories : length (t .categories) ≡ 4 * maxCategories
-  pub definitions : length (t .definitions) ≡ 6 * maxCategoryLines
-  pub ranges : length (t .ranges) ≡ 8 * maxRanges
-  pub references : length (t .references) ≡ 2 * maxReferences
+  pub categories : length (t .categories) ≡ nameSlotSize * maxCategories
+  pub definitions : length (t .definitions) ≡ definitionSize * maxCategoryLines
+  pub ranges : length (t .ranges) ≡ rangeSlotSize * maxRanges
+  pub references : length (t .references) ≡ referenceSize * maxReferences
 
 -- tables with nothing in them
 unfoldable pub noTables : Tables

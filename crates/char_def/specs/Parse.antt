@@ -11,7 +11,7 @@ use Rattle.paper.specs.Sizes.{maxCategories, maxNameBytes, maxCategoryLines, ma
 use Rattle.paper.specs.Refusals.{roomShort, rangeParts}
 use Rattle.paper.specs.CharDef.Reading.{Reading, Answer, accepted, refused}
 use Rattle.paper.specs.Computed.ReadText.{readText}
-use Rattle.paper.specs.Tables.Layout.{Tables, layout, inRoom, behind, countsOf}
+use Rattle.paper.specs.Tables.Layout.{Tables, layout, inRoom, behind, countsOf, nameSlotSize, definitionSize, rangeSlotSize, referenceSize}
 use Rattle.paper.specs.Tables.Lent.{zeroed}
 use Rattle.char_def.specs.declared.Outcome.{Outcome}
 use Rattle.char_def.specs.declared.Outcome.the-variants.{Accepted, Refused}
@@ -22,8 +22,8 @@ use Rattle.char_def.specs.declared.Outcome.the-variants.{Accepted, Refus
 unfoldable pub roomFor : (names categories definitions ranges references : ℕ) → Bool
 roomFor names categories definitions ranges references =
     leb maxNameBytes names
-    && (leb (4 * maxCategories) categories
-    && (leb (6 * maxCategoryLines) definitions && (leb (8 * maxRanges) ranges && leb (2 * maxReferences) references)))
+    && (leb (nameSlotSize * maxCategories) categories
+    && (leb (definitionSize * maxCategoryLines) definitions && (leb (rangeSlotSize * maxRanges) ranges && leb (referenceSize * maxReferences) references)))
 
 abbrev pub hasRoom : Tables → Bool
 hasRoom t = roomFor (length (t .names)) (length (t .categories)) (length (t .definitions)) (length (t .ranges)) (length (t .references))
@@ -44,10 +44,10 @@ unfoldable pub past : Tables → Tables
 past t =
     record {
       names = drop maxNameBytes (t .names);
-      categories = drop (4 * maxCategories) (t .categories);
-      definitions = drop (6 * maxCategoryLines) (t .definitions);
-      ranges = drop (8 * maxRanges) (t .ranges);
-      references = drop (2 * maxReferences) (t .references);
+      categories = drop (nameSlotSize * maxCategories) (t .categories);
+      definitions = drop (definitionSize * maxCategoryLines) (t .definitions);
+      ranges = drop (rangeSlotSize * maxRanges) (t .ranges);
+      references = drop (referenceSize * maxReferences) (t .references);
     }
 
 -- "the output room zero up to the stated sizes"
@@ -55,10 +55,10 @@ unfoldable pub cleared : Tables → Tables
 cleared t =
     record {
       names = zeroed maxNameBytes (t .names);
-      categories = zeroed (4 * maxCategories) (t .categories);
-      definitions = zeroed (6 * maxCategoryLines) (t .definitions);
-      ranges = zeroed (8 * maxRanges) (t .ranges);
-      references = zeroed (2 * maxReferences) (t .references);
+      categories = zeroed (nameSlotSize * maxCategories) (t .categories);
+      definitions = zeroed (definitionSize * maxCategoryLines) (t .definitions);
+      ranges = zeroed (rangeSlotSize * maxRanges) (t .ranges);
+      references = zeroed (referenceSize * maxReferences) (t .references);
     }
 
 -- acceptance leaves the reading's tables, "unused places .. zero", and what lay past the sizes; 4 to 13 leave zero up to the sizes; 1 to 3

@@ -12,7 +12,7 @@ use Rattle.paper.specs.CharDef.Line.{Line, blank, category, range}
 use Rattle.paper.specs.CharDef.Reading.{Reading, Definition, Range, references}
 use Rattle.paper.specs.Computed.ReadText.{Found, found, wrong, Step, go-on, stop, intern, names-are, full-at, addRange, addDefinition}
 use Rattle.paper.specs.Numbers.Bytes.{le}
-use Rattle.paper.specs.Tables.Layout.{definitionBytes, rangeTable, referenceTable}
+use Rattle.paper.specs.Tables.Layout.{definitionBytes, rangeTable, referenceTable, definitionSize, rangeSlotSize, referenceSize}
 use Rattle.paper.specs.Tables.Lent.{patch, padded}
 use Rattle.paper.specs.declared.Counts.{Counts}
 use Rattle.line.specs.Marks.{wordsBytes, gapWidth, lineBytes}
@@ -89,13 +89,13 @@ pub record Held (r : Reading) (m : Memory) (c : Counts) : Type 0 where
   pub names : Laid (r .names) (m .store) (m .slots) (c .categories) (c .bytes)
   pub definitions-few : c .definitions ≤ maxCategoryLines
   pub definitions-are : c .definitions ≡ length (r .definitions)
-  pub in-definitions : m .definitions ≡ padded (6 * maxCategoryLines) (joined (map definitionBytes (r .definitions)))
+  pub in-definitions : m .definitions ≡ padded (definitionSize * maxCategoryLines) (joined (map definitionBytes (r .definitions)))
   pub ranges-few : c .ranges ≤ maxRanges
   pub ranges-are : c .ranges ≡ length (r .ranges)
-  pub in-ranges : m .ranges ≡ padded (8 * maxRanges) (rangeTable (r .ranges))
+  pub in-ranges : m .ranges ≡ padded (rangeSlotSize * maxRanges) (rangeTable (r .ranges))
   pub references-few : c .references ≤ maxReferences
   pub references-are : c .references ≡ references (r .ranges)
-  pub in-references : m .references ≡ padded (2 * maxReferences) (referenceTable (r .ranges))
+  pub in-references : m .references ≡ padded (referenceSize * maxReferences) (referenceTable (r .ranges))
 
 -- it holds some reading, and has the sizes
 pub record Working (m : Memory) (c : Counts) : Type 0 where
@@ -103,9 +103,9 @@ pub record Working (m : Memory) (c : Counts) : Type 0 where
   pub held : Held reading m c
   pub store-long : length (m .store) ≡ maxNameBytes
   pub slots-long : length (m .slots) ≡ maxCategories
-  pub definitions-long : length (m .definitions) ≡ 6 * maxCategoryLines
-  pub ranges-long : length (m .ranges) ≡ 8 * maxRanges
-  pub references-long : length (m .references) ≡ 2 * maxReferences
+  pub definitions-long : length (m .definitions) ≡ definitionSize * maxCategoryLines
+  pub ranges-long : length (m .ranges) ≡ rangeSlotSize * maxRanges
+  pub references-long : length (m .references) ≡ referenceSize * maxReferences
 
 pub record Went (s : Step) (m : Memory) (c : Counts) : Type 0 where
   pub after : Reading

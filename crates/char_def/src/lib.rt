@@ -36,10 +36,10 @@ ghost use Rattle.paper.specs.CharDef.Line.{category, range};
 ghost use Rattle.paper.specs.CharDef.Reading.{isLF};
 ghost use Rattle.paper.specs.Computed.ReadText.{nothingRead};
 ghost use Rattle.paper.specs.Pack.Fields.{flag};
-ghost use Rattle.paper.specs.Tables.Layout.{definitionBytes, slotBytes, inRoom};
+ghost use Rattle.paper.specs.Tables.Layout.{definitionSize, rangeSlotSize, definitionBytes, slotBytes, inRoom};
 ghost use Rattle.paper.specs.Tables.Lent.{patch};
 ghost use Rattle.line.specs.Marks.{lineBytes};
-ghost use Rattle.line.specs.Answer.{Inside};
+ghost use Rattle.line.specs.Asked.{Inside};
 ghost use Rattle.char_def.specs.Steps.{long, wordsOf, Ready, EntersAll, Working, Stepped, enterBytes, enterFoundBytes, Held};
 ghost use Rattle.char_def.specs.Lines.{readAll, Walked, Sized, noTables, TablesFilled, LinesRead};
 ghost use Rattle.char_def.specs.Parse.{roomFor, Parsed};
@@ -96,8 +96,8 @@ fn flag_of(b: bool) -> u8
 
 // One more entry of the definition table.
 fn append_definition(definitions: &mut [u8], n: usize, invoke: bool, group: bool, length: u32)
-    requires { ⌜ 6 * n + 6 ≤ long (now definitions) ⌝ }
-    ensures { λ _. ⌜ now (definitions .exit) ≡ patch (6 * n) (definitionBytes (record { invoke = invoke; group = group; len = length })) (now (definitions .entry)) ⌝ }
+    requires { ⌜ definitionSize * n + definitionSize ≤ long (now definitions) ⌝ }
+    ensures { λ _. ⌜ now (definitions .exit) ≡ patch (definitionSize * n) (definitionBytes (record { invoke = invoke; group = group; len = length })) (now (definitions .entry)) ⌝ }
 {
     let at = DEFINITION_BYTES * n;
     table::put_u32(definitions, at, length);
@@ -107,8 +107,8 @@ fn append_definition(definitions: &mut [u8], n: usize, invoke: bool, group: bool
 
 // One more entry of the range table.
 fn append_range(ranges: &mut [u8], n: usize, lower: u16, upper: u16, first: u16, count: u16)
-    requires { ⌜ 8 * n + 8 ≤ length (now ranges) ⌝ }
-    ensures { λ _. ⌜ now (ranges .exit) ≡ patch (8 * n) (slotBytes (record { lower = lower; upper = upper; first = first; count = count })) (now (ranges .entry)) ⌝ }
+    requires { ⌜ rangeSlotSize * n + rangeSlotSize ≤ length (now ranges) ⌝ }
+    ensures { λ _. ⌜ now (ranges .exit) ≡ patch (rangeSlotSize * n) (slotBytes (record { lower = lower; upper = upper; first = first; count = count })) (now (ranges .entry)) ⌝ }
 {
     let at = RANGE_BYTES * n;
     table::put_u16(ranges, at, lower);

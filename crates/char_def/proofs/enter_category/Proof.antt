@@ -10,7 +10,7 @@ use Rattle.char_def.proofs.enter_category.Statement.{statement}
 use Rattle.char_def.proofs.enter_category.Tie as tie
 
 returns : tie.Need-returns
-returns c r z = let a = (c .before .before .before .before .before .before .before .args) in let n = drop (a .line .name .start) (take (a .line .name .end) (now (a .text))) in line-11 z n (a .line .invoke) (a .line .group) (a .line .length) ((c .if1 .taken))
+returns c r z = let a = (c .before .before .before .before .before .before .before .args) in let n = drop (a .line .name .start) (take (a .line .name .end) (now (a .text))) in line-11 z n (a .line .invoke) (a .line .group) (a .line .length) (omega arith)
 
 category-id-requires : tie.Need-category-id-requires
 category-id-requires c κs = search needs
@@ -34,7 +34,7 @@ same-length-2 : tie.Need-same-length-2
 same-length-2 c = search needs
 
 returns-2 : tie.Need-returns-2
-returns-2 c r z = let a = (c .before .before .before .before .before .before .before .before .before .before .before .before .before .before .before .before .before .before .args) in let n = drop (a .line .name .start) (take (a .line .name .end) (now (a .text))) in line-full z n (a .line .invoke) (a .line .group) (a .line .length) ((c .before .before .before .before .before .before .before .before .before .before .before .if1 .left)) ((c .before .k .given .0 .0)) (((rw ((c .before .k .given .1)) at ((c .before .before .before .before .before .before .before .category-id .ensures))) (r .names) (z .names)) .full)
+returns-2 c r z = let a = (c .before .before .before .before .before .before .before .before .before .before .before .before .before .before .before .before .before .before .args) in let n = drop (a .line .name .start) (take (a .line .name .end) (now (a .text))) in line-full z n (a .line .invoke) (a .line .group) (a .line .length) (omega arith) ((c .before .k .given .0 .0)) (((rw ((c .before .k .given .1)) at ((c .before .before .before .before .before .before .before .category-id .ensures))) (r .names) (z .names)) .full)
 
 same-length-3 : tie.Need-same-length-3
 same-length-3 c = search needs
@@ -46,7 +46,7 @@ same-length-5 : tie.Need-same-length-5
 same-length-5 c = search needs
 
 returns-3 : tie.Need-returns-3
-returns-3 c r z = let a = (c .before .before .before .before .before .before .before .before .before .before .before .before .before .before .before .before .before .before .before .before .before .before .args) in let n = drop (a .line .name .start) (take (a .line .name .end) (now (a .text))) in line-category z n (a .line .invoke) (a .line .group) (a .line .length) ((c .before .before .before .before .before .before .before .before .before .before .before .before .before .before .before .if1 .left)) _ _ _ ((c .before .before .before .before .before .e .given .0 .0)) ((rw ((c .before .before .before .before .before .e .given .1)) at ((c .before .before .before .before .before .before .before .before .before .before .before .category-id .ensures))) (r .names) (z .names)) ((c .before .before .append-definition .ensures))
+returns-3 c r z = let a = (c .before .before .before .before .before .before .before .before .before .before .before .before .before .before .before .before .before .before .before .before .before .before .args) in let n = drop (a .line .name .start) (take (a .line .name .end) (now (a .text))) in line-category z n (a .line .invoke) (a .line .group) (a .line .length) (omega arith) _ _ _ ((c .before .before .before .before .before .e .given .0 .0)) ((rw ((c .before .before .before .before .before .e .given .1)) at ((c .before .before .before .before .before .before .before .before .before .before .before .category-id .ensures))) (r .names) (z .names)) ((c .before .before .append-definition .ensures))
 
 pub enter-category-spec : {M : Type 1} → statement M
 enter-category-spec =

@@ -11,7 +11,7 @@ use Rattle.char_def.proofs.enter_range.Statement.{statement}
 use Rattle.char_def.proofs.enter_range.Tie as tie
 
 returns : tie.Need-returns
-returns c r z = let a = (c .before .before .before .before .before .before .before .args) in let ws = wordsOf (drop (a .line .names .start) (take (a .line .names .end) (now (a .text)))) in line-9 z (a .line .lower) (a .line .upper) ws ((c .if1 .taken))
+returns c r z = let a = (c .before .before .before .before .before .before .before .args) in let ws = wordsOf (drop (a .line .names .start) (take (a .line .names .end) (now (a .text)))) in line-9 z (a .line .lower) (a .line .upper) ws (omega arith)
 
 count-words-requires : tie.Need-count-words-requires
 count-words-requires c κs = search needs
@@ -20,7 +20,7 @@ sub-if2 : tie.Need-sub-if2
 sub-if2 c = search needs
 
 returns-2 : tie.Need-returns-2
-returns-2 c r z = let a = (c .before .before .before .before .before .before .before .before .before .before .args) in let ws = wordsOf (drop (a .line .names .start) (take (a .line .names .end) (now (a .text)))) in let e = (c .before .count-words .ensures) in let f = z .references-few in let i = (c .if2 .taken) in line-10 z (a .line .lower) (a .line .upper) ws ((c .before .before .before .if1 .left)) (omega arith)
+returns-2 c r z = let a = (c .before .before .before .before .before .before .before .before .before .before .args) in let ws = wordsOf (drop (a .line .names .start) (take (a .line .names .end) (now (a .text)))) in let e = (c .before .count-words .ensures) in let f = z .references-few in let i = (c .if2 .taken) in line-10 z (a .line .lower) (a .line .upper) ws (omega arith) (omega arith)
 
 enter-names-requires : tie.Need-enter-names-requires
 enter-names-requires c κs = let p = (c .before .before .before .before .before .before .before .before .before .before .before .before .before .pre .0) in let q = (c .before .before .before .before .before .before .before .before .before .before .before .before .before .pre .1) in let e = (c .before .before .before .before .count-words .ensures) in let f = p .held .references-few in let i = (c .before .before .before .if2 .left) in let s = p .store-long in let t = p .slots-long in let u = p .references-long in record { store-long = omega arith; slots-long = omega arith; names = p .reading .names; laid = p .held .names; order = q .order; within = q .within; room = omega arith; few = omega arith }
@@ -53,7 +53,7 @@ same-length-3 : tie.Need-same-length-3
 same-length-3 c = search needs
 
 returns-3 : tie.Need-returns-3
-returns-3 c r z = let a = (c .before .before .before .before .before .before .before .before .before .before .before .before .before .before .before .before .before .before .before .before .before .before .before .args) in let ws = wordsOf (drop (a .line .names .start) (take (a .line .names .end) (now (a .text)))) in let e = (c .before .before .before .before .before .before .before .before .before .before .before .before .before .before .count-words .ensures) in let f = z .references-few in let i = (c .before .before .before .before .before .before .before .before .before .before .before .before .before .if2 .left) in line-no-name z (a .line .lower) (a .line .upper) ws ((c .before .before .before .before .before .before .before .before .before .before .before .before .before .before .before .before .if1 .left)) (omega arith) ((c .before .k .given .0 .0)) ((rw ((c .before .k .given .1)) at ((c .before .before .before .before .before .before .before .before .before .enter-names .ensures))) (r .names) (z .names))
+returns-3 c r z = let a = (c .before .before .before .before .before .before .before .before .before .before .before .before .before .before .before .before .before .before .before .before .before .before .before .args) in let ws = wordsOf (drop (a .line .names .start) (take (a .line .names .end) (now (a .text)))) in let e = (c .before .before .before .before .before .before .before .before .before .before .before .before .before .before .count-words .ensures) in let f = z .references-few in let i = (c .before .before .before .before .before .before .before .before .before .before .before .before .before .if2 .left) in line-no-name z (a .line .lower) (a .line .upper) ws (omega arith) (omega arith) ((c .before .k .given .0 .0)) ((rw ((c .before .k .given .1)) at ((c .before .before .before .before .before .before .before .before .before .enter-names .ensures))) (r .names) (z .names))
 
 same-length-4 : tie.Need-same-length-4
 same-length-4 c = search needs
@@ -68,7 +68,7 @@ same-length-7 : tie.Need-same-length-7
 same-length-7 c = search needs
 
 returns-4 : tie.Need-returns-4
-returns-4 c r z = let a = (c .before .before .before .before .before .before .before .before .before .before .before .before .before .before .before .before .before .before .before .before .before .before .before .before .before .before .before .args) in let ws = wordsOf (drop (a .line .names .start) (take (a .line .names .end) (now (a .text)))) in let e = (c .before .before .before .before .before .before .before .before .before .before .before .before .before .before .before .before .before .before .count-words .ensures) in let f = z .references-few in let i = (c .before .before .before .before .before .before .before .before .before .before .before .before .before .before .before .before .before .if2 .left) in line-range z (a .line .lower) (a .line .upper) ws ((c .before .before .before .before .before .before .before .before .before .before .before .before .before .before .before .before .before .before .before .before .if1 .left)) (omega arith) _ _ _ _ ((c .before .before .before .before .before .d .given .0 .0)) ((rw ((c .before .before .before .before .before .d .given .1)) at ((c .before .before .before .before .before .before .before .before .before .before .before .before .before .enter-names .ensures))) (r .names) (z .names)) ((c .before .before .before .before .before .before .before .before .before .before .before .before .before .before .before .before .before .before .count-words .result)) ((c .before .before .before .before .before .before .before .before .before .before .before .before .before .before .before .before .before .before .count-words .ensures)) ((c .before .before .append-range .ensures))
+returns-4 c r z = let a = (c .before .before .before .before .before .before .before .before .before .before .before .before .before .before .before .before .before .before .before .before .before .before .before .before .before .before .before .args) in let ws = wordsOf (drop (a .line .names .start) (take (a .line .names .end) (now (a .text)))) in let e = (c .before .before .before .before .before .before .before .before .before .before .before .before .before .before .before .before .before .before .count-words .ensures) in let f = z .references-few in let i = (c .before .before .before .before .before .before .before .before .before .before .before .before .before .before .before .before .before .if2 .left) in line-range z (a .line .lower) (a .line .upper) ws (omega arith) (omega arith) _ _ _ _ ((c .before .before .before .before .before .d .given .0 .0)) ((rw ((c .before .before .before .before .before .d .given .1)) at ((c .before .before .before .before .before .before .before .before .before .before .before .before .before .enter-names .ensures))) (r .names) (z .names)) ((c .before .before .before .before .before .before .before .before .before .before .before .before .before .before .before .before .before .before .count-words .result)) ((c .before .before .before .before .before .before .before .before .before .before .before .before .before .before .before .before .before .before .count-words .ensures)) ((c .before .before .append-range .ensures))
 
 pub enter-range-spec : {M : Type 1} → statement M
 enter-range-spec =

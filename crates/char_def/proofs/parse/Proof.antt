@@ -1,8 +1,9 @@
 -- `char_def::parse` meets its contract: each way through is an answer of `Whole`; the parts that are lent have the sizes.
 -- Assumes nothing.
 use Prim.Native.Nat.{_*_}
+use native.Mathlib.Omega.{arith}
 use denote.Ref.{now}
-use Rattle.paper.specs.Tables.Layout.{Tables}
+use Rattle.paper.specs.Tables.Layout.{Tables, nameSlotSize, definitionSize, rangeSlotSize, referenceSize}
 use Rattle.paper.specs.Sizes.{maxNameBytes, maxCategories, maxCategoryLines, maxRanges, maxReferences}
 use Rattle.char_def.proofs.Sizes.{lacking, having, roomy, part-long, parts-sized}
 use Rattle.char_def.proofs.Whole.{whole-formed, short-room, long-text, ill-text, lines-parsed}
@@ -23,7 +24,7 @@ returns-2 : tie.Need-returns-2
 returns-2 c =
     let a = (c .before .before .before .before .before .before .before .before .before .args) in
     let t : Tables = record { names = now (a .names); categories = now (a .categories); definitions = now (a .definitions); ranges = now (a .ranges); references = now (a .references) } in
-    long-text (now (a .text)) t (having t ((c .before .before .has-room .ensures)) ((c .before .if1 .left))) ((c .if2 .taken))
+    long-text (now (a .text)) t (having t ((c .before .before .has-room .ensures)) ((c .before .if1 .left))) (omega arith)
 
 valid-prefix-requires : tie.Need-valid-prefix-requires
 valid-prefix-requires c κs = search needs
@@ -32,7 +33,7 @@ returns-3 : tie.Need-returns-3
 returns-3 c =
     let a = (c .before .before .before .before .before .before .before .before .before .before .before .args) in
     let t : Tables = record { names = now (a .names); categories = now (a .categories); definitions = now (a .definitions); ranges = now (a .ranges); references = now (a .references) } in
-    ill-text (now (a .text)) t (having t ((c .before .before .before .before .has-room .ensures)) ((c .before .before .before .if1 .left))) ((c .before .before .if2 .left)) _ ((c .before .valid-prefix .ensures)) ((c .if3 .taken))
+    ill-text (now (a .text)) t (having t ((c .before .before .before .before .has-room .ensures)) ((c .before .before .before .if1 .left))) (omega arith) ((c .before .valid-prefix .result)) ((c .before .valid-prefix .ensures)) (omega arith)
 
 slice-relend-prefix-read-lines : tie.Need-slice-relend-prefix-read-lines
 slice-relend-prefix-read-lines c =
@@ -56,7 +57,7 @@ slice-aggregate-read-lines-2 : tie.Need-slice-aggregate-read-lines-2
 slice-aggregate-read-lines-2 c =
     let a = (c .before .before .before .before .before .before .before .before .before .before .before .before .before .args) in
     let t : Tables = record { names = now (a .names); categories = now (a .categories); definitions = now (a .definitions); ranges = now (a .ranges); references = now (a .references) } in
-    part-long (4 * maxCategories) (t .categories) (roomy t ((c .before .before .before .before .before .before .has-room .ensures)) ((c .before .before .before .before .before .if1 .left)) .for-categories)
+    part-long (nameSlotSize * maxCategories) (t .categories) (roomy t ((c .before .before .before .before .before .before .has-room .ensures)) ((c .before .before .before .before .before .if1 .left)) .for-categories)
 
 slice-relend-prefix-read-lines-3 : tie.Need-slice-relend-prefix-read-lines-3
 slice-relend-prefix-read-lines-3 c =
@@ -68,7 +69,7 @@ slice-aggregate-read-lines-3 : tie.Need-slice-aggregate-read-lines-3
 slice-aggregate-read-lines-3 c =
     let a = (c .before .before .before .before .before .before .before .before .before .before .before .before .before .before .args) in
     let t : Tables = record { names = now (a .names); categories = now (a .categories); definitions = now (a .definitions); ranges = now (a .ranges); references = now (a .references) } in
-    part-long (6 * maxCategoryLines) (t .definitions) (roomy t ((c .before .before .before .before .before .before .before .has-room .ensures)) ((c .before .before .before .before .before .before .if1 .left)) .for-definitions)
+    part-long (definitionSize * maxCategoryLines) (t .definitions) (roomy t ((c .before .before .before .before .before .before .before .has-room .ensures)) ((c .before .before .before .before .before .before .if1 .left)) .for-definitions)
 
 slice-relend-prefix-read-lines-4 : tie.Need-slice-relend-prefix-read-lines-4
 slice-relend-prefix-read-lines-4 c =
@@ -80,7 +81,7 @@ slice-aggregate-read-lines-4 : tie.Need-slice-aggregate-read-lines-4
 slice-aggregate-read-lines-4 c =
     let a = (c .before .before .before .before .before .before .before .before .before .before .before .before .before .before .before .args) in
     let t : Tables = record { names = now (a .names); categories = now (a .categories); definitions = now (a .definitions); ranges = now (a .ranges); references = now (a .references) } in
-    part-long (8 * maxRanges) (t .ranges) (roomy t ((c .before .before .before .before .before .before .before .before .has-room .ensures)) ((c .before .before .before .before .before .before .before .if1 .left)) .for-ranges)
+    part-long (rangeSlotSize * maxRanges) (t .ranges) (roomy t ((c .before .before .before .before .before .before .before .before .has-room .ensures)) ((c .before .before .before .before .before .before .before .if1 .left)) .for-ranges)
 
 slice-relend-prefix-read-lines-5 : tie.Need-slice-relend-prefix-read-lines-5
 slice-relend-prefix-read-lines-5 c =
@@ -92,7 +93,7 @@ slice-aggregate-read-lines-5 : tie.Need-slice-aggregate-read-lines-5
 slice-aggregate-read-lines-5 c =
     let a = (c .before .before .before .before .before .before .before .before .before .before .before .before .before .before .before .before .args) in
     let t : Tables = record { names = now (a .names); categories = now (a .categories); definitions = now (a .definitions); ranges = now (a .ranges); references = now (a .references) } in
-    part-long (2 * maxReferences) (t .references) (roomy t ((c .before .before .before .before .before .before .before .before .before .has-room .ensures)) ((c .before .before .before .before .before .before .before .before .if1 .left)) .for-references)
+    part-long (referenceSize * maxReferences) (t .references) (roomy t ((c .before .before .before .before .before .before .before .before .before .has-room .ensures)) ((c .before .before .before .before .before .before .before .before .if1 .left)) .for-references)
 
 read-lines-requires : tie.Need-read-lines-requires
 read-lines-requires c κs =
@@ -120,8 +121,8 @@ returns-4 c =
     let a = (c .before .before .before .before .before .before .before .before .before .before .before .before .before .before .before .before .before .before .before .before .before .before .before .before .before .before .before .args) in
     let t : Tables = record { names = now (a .names); categories = now (a .categories); definitions = now (a .definitions); ranges = now (a .ranges); references = now (a .references) } in
     let l = (c .before .before .before .before .before .before .before .before .before .before .read-lines .last) in
-    lines-parsed (now (a .text)) t (having t ((c .before .before .before .before .before .before .before .before .before .before .before .before .before .before .before .before .before .before .before .before .has-room .ensures)) ((c .before .before .before .before .before .before .before .before .before .before .before .before .before .before .before .before .before .before .before .if1 .left))) ((c .before .before .before .before .before .before .before .before .before .before .before .before .before .before .before .before .before .before .if2 .left))
-    (whole-formed (now (a .text)) _ ((c .before .before .before .before .before .before .before .before .before .before .before .before .before .before .before .before .before .valid-prefix .ensures)) ((c .before .before .before .before .before .before .before .before .before .before .before .before .before .before .before .before .if3 .left)))
+    lines-parsed (now (a .text)) t (having t ((c .before .before .before .before .before .before .before .before .before .before .before .before .before .before .before .before .before .before .before .before .has-room .ensures)) ((c .before .before .before .before .before .before .before .before .before .before .before .before .before .before .before .before .before .before .before .if1 .left))) (omega arith)
+    (whole-formed (now (a .text)) ((c .before .before .before .before .before .before .before .before .before .before .before .before .before .before .before .before .before .valid-prefix .result)) ((c .before .before .before .before .before .before .before .before .before .before .before .before .before .before .before .before .before .valid-prefix .ensures)) (omega arith))
     (record { names = l .1 .0; categories = l .1 .1 .0; definitions = l .1 .1 .1 .0; ranges = l .1 .1 .1 .1 .0; references = l .1 .1 .1 .1 .1 .0 })
     _ ((c .before .before .before .before .before .before .before .before .before .before .read-lines .ensures))
 

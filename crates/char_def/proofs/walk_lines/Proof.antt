@@ -25,7 +25,7 @@ line-end-requires c κs = search needs
 
 enter-line-requires : tie.Need-enter-line-requires Inv-loop μ-loop
 enter-line-requires c κs =
-    (working ((c .before .before .before .before .before .before .before .loop .inv .held)), walk-inside ((c .before .before .before .before .before .before .before .loop .inv)) _ ((c .before .before .before .before .before .line-end .ensures)) ((c .before .before .before .before .before .before .loop-test .taken)))
+    (working ((c .before .before .before .before .before .before .before .loop .inv .held)), walk-inside ((c .before .before .before .before .before .before .before .loop .inv)) ((c .before .before .before .before .before .line-end .result)) ((c .before .before .before .before .before .line-end .ensures)) (omega arith))
 
 enum-known-number : tie.Need-enum-known-number Inv-loop μ-loop
 enum-known-number c = search needs
@@ -47,7 +47,7 @@ same-length-5 c = let a = references-long ((c .before .before .before .before .b
 
 returns : tie.Need-returns Inv-loop μ-loop
 returns c =
-    walk-stops ((c .before .before .before .before .before .before .before .before .before .before .before .before .before .before .before .before .before .before .before .before .before .loop .inv)) _ ((c .before .before .before .before .before .before .before .before .before .before .before .before .before .before .before .before .before .before .before .line-end .ensures)) ((c .before .before .before .before .before .before .before .before .before .before .before .before .before .before .before .before .before .before .before .before .loop-test .taken)) ((c .before .number .given .0 .0)) (rw ((c .before .number .given .1)) at ((c .before .before .before .before .before .before .before .before .before .before .before .before .before .enter-line .ensures)))
+    walk-stops ((c .before .before .before .before .before .before .before .before .before .before .before .before .before .before .before .before .before .before .before .before .before .loop .inv)) ((c .before .before .before .before .before .before .before .before .before .before .before .before .before .before .before .before .before .before .before .line-end .result)) ((c .before .before .before .before .before .before .before .before .before .before .before .before .before .before .before .before .before .before .before .line-end .ensures)) (omega arith) ((c .before .number .given .0 .0)) (rw ((c .before .number .given .1)) at ((c .before .before .before .before .before .before .before .before .before .before .before .before .before .enter-line .ensures)))
 
 enum-known-more : tie.Need-enum-known-more Inv-loop μ-loop
 enum-known-more c = search needs
@@ -63,7 +63,7 @@ loop-less c = let e = (c .before .before .before .before .before .before .before
 
 loop-again : tie.Need-loop-again Inv-loop μ-loop
 loop-again c =
-    walk-on ((c .before .before .before .before .before .before .before .before .before .before .before .before .before .before .before .before .before .before .before .before .before .loop .inv)) _ ((c .before .before .before .before .before .before .before .before .before .before .before .before .before .before .before .before .before .before .before .line-end .ensures)) ((c .before .before .before .before .before .before .before .before .before .before .before .before .before .before .before .before .before .before .before .before .loop-test .taken)) _ ((c .before .more .given .0 .0)) (rw ((c .before .more .given .1)) at ((c .before .before .before .before .before .before .before .before .before .before .before .before .before .enter-line .ensures)))
+    walk-on ((c .before .before .before .before .before .before .before .before .before .before .before .before .before .before .before .before .before .before .before .before .before .loop .inv)) ((c .before .before .before .before .before .before .before .before .before .before .before .before .before .before .before .before .before .before .before .line-end .result)) ((c .before .before .before .before .before .before .before .before .before .before .before .before .before .before .before .before .before .before .before .line-end .ensures)) (omega arith) _ ((c .before .more .given .0 .0)) (rw ((c .before .more .given .1)) at ((c .before .before .before .before .before .before .before .before .before .before .before .before .before .enter-line .ensures)))
 
 same-length-6 : tie.Need-same-length-6 Inv-loop μ-loop
 same-length-6 c = let a = store-long ((c .before .loop .inv .held)) in let b = store-long ((c .before .before .before .before .before .before .before .before .pre .1)) in omega arith
@@ -81,7 +81,7 @@ same-length-10 : tie.Need-same-length-10 Inv-loop μ-loop
 same-length-10 c = let a = references-long ((c .before .loop .inv .held)) in let b = references-long ((c .before .before .before .before .before .before .before .before .pre .1)) in omega arith
 
 returns-2 : tie.Need-returns-2 Inv-loop μ-loop
-returns-2 c = walk-ends ((c .before .loop .inv)) ((c .loop-test .left))
+returns-2 c = walk-ends ((c .before .loop .inv)) (omega arith)
 
 pub walk-lines-spec : {M : Type 1} → statement M
 walk-lines-spec =
