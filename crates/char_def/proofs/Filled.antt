@@ -2,11 +2,11 @@
 -- Assumes nothing.
 use Prim.Native.Nat.{ℕ, _*_, _≤_}
 use native.Mathlib.Omega.{arith}
-use mathlib.Core.Path.{_≡_, refl, sym, ap, _∙_}
+use mathlib.Core.Path.{_≡_, sym, ap, _∙_}
 use mathlib.Core.List.{List, [], _++_, append-nil}
 use lib.ListN.{length, drop, replicate, drop-of-length-le}
 use Rattle.paper.specs.Sizes.{maxCategories, maxNameBytes, maxCategoryLines, maxRanges, maxReferences}
-use Rattle.paper.specs.CharDef.Reading.{Reading, Answer, refused}
+use Rattle.paper.specs.CharDef.Reading.{Reading, Answer}
 use Rattle.paper.specs.Computed.ReadText.{nothingRead}
 use Rattle.paper.specs.Tables.Layout.{Tables, layout, inRoom, countsOf, nameSlotSize, definitionSize, rangeSlotSize, referenceSize}
 use Rattle.paper.specs.Tables.Lent.{padded}
@@ -16,7 +16,7 @@ use Rattle.paper.proofs.Tables.Trip.{tables-is}
 use Rattle.name.specs.Slots.{written}
 use Rattle.name.proofs.Written.{written-room}
 use Rattle.char_def.specs.Steps.{Memory, Held}
-use Rattle.char_def.specs.Lines.{WalkEnded, Sized, noTables, LinesAccepted}
+use Rattle.char_def.specs.Lines.{WalkEnded, noTables, LinesAccepted}
 use Rattle.char_def.proofs.Text.{held-nothing}
 
 -- ---- before

@@ -1,23 +1,26 @@
--- The places of a line's answer lie in the text, and the paper's step on bytes. Assumes nothing.
-use Prim.Native.Nat.{ℕ, zero, suc, _+_, _-_, _≤_, _<_}
+-- The places of a line's answer lie in the text, and a step on bytes is the paper's step on characters.
+-- Assumes nothing.
+use Prim.Native.Nat.{ℕ, zero, suc, _+_, _-_, _≤_}
 use native.Mathlib.Omega.{arith}
 use mathlib.Core.Path.{_≡_, refl, sym, ap, _∙_, subst}
 use mathlib.Core.Bool.{Bool, true, false, not, cond, _&&_}
 use mathlib.Core.List.{List, [], _∷_, map}
-use lib.ListN.{length, take, drop, length-drop}
-use lib.Seq.{length-take-le}
-use lib.Dec.{ltb}
+use lib.ListN.{length, take, drop, length-map}
+use lib.Dec.{leb, ltb}
+use Rattle.paper.proofs.Lists.Parts.{part-length}
 use Rattle.paper.specs.Lists.{empty, until, trimEnd}
+use Rattle.paper.specs.Sizes.{maxRanges, maxReferences}
+use Rattle.paper.specs.Refusals.{rangesFull, referencesFull}
 use Rattle.paper.specs.Text.Scalar.{utf8}
-use Rattle.paper.specs.CharDef.Line.{Line, blank, category, range}
-use Rattle.paper.specs.CharDef.Reading.{Reading}
-use Rattle.paper.specs.Computed.ReadText.{Found, found, wrong, Step, stop, go-on, enter, enterFound, lineOf, verdict, intern}
+use Rattle.paper.specs.CharDef.Line.{blank, category, range}
+use Rattle.paper.specs.CharDef.Reading.{Reading, references}
+use Rattle.paper.specs.Computed.ReadText.{Found, found, wrong, Step, stop, go-on, enter, enterFound, lineOf, verdict, intern, addRange}
 use Rattle.text.specs.Answers.{whiteWidth}
-use Rattle.line.specs.Marks.{Mark, marks, marksFrom, gapWidth, inGap, hashMark, lineBytes, inBytes}
+use Rattle.line.specs.Marks.{marks, marksFrom, gapWidth, inGap, hashMark, lineBytes, inBytes}
 use Rattle.line.proofs.LineBridge.{line-bridge}
 use Rattle.line.specs.declared.Part.{Part}
 use Rattle.line.specs.Asked.{Inside}
-use Rattle.line.specs.Answer.{gapRun, wordRun, solid, wordPart, bodyPart, bytesOf, said, Says}
+use Rattle.line.specs.Answer.{gapRun, wordRun, solid, wordPart, bodyPart, Says}
 use Rattle.line.specs.declared.CategoryLine.{CategoryLine}
 use Rattle.line.specs.declared.RangeLine.{RangeLine}
 use Rattle.line.specs.declared.LineAnswer.{LineAnswer}
@@ -26,17 +29,10 @@ use Rattle.line.specs.declared.Line.the-variants.{Blank, Category, Range}
 use Rattle.paper.specs.declared.Counts.{Counts}
 use Rattle.char_def.specs.declared.LineStep.{LineStep}
 use Rattle.char_def.specs.declared.LineStep.the-variants.{Next, Stop}
-use Rattle.char_def.specs.Steps.{wordsOf, enterBytes, enterFoundBytes, Memory, Held, Went, Stepped}
+use Rattle.char_def.proofs.Scan.{until-length}
+use Rattle.char_def.specs.Steps.{wordsOf, enterBytes, enterFoundBytes, Memory, Stepped}
 
 module _ {A : Type 0} (p : A → Bool) where
-  until-length : (l : List A) → length (until p l) ≤ length l
-  until-length [] = omega arith
-  until-length (x ∷ l) = go (p x) (until-length l)
-    where
-      go : (b : Bool) → length (until p l) ≤ length l → length (cond b [] (x ∷ until p l)) ≤ suc (length l)
-      go true h = omega arith
-      go false h = omega arith
-
   trim-length : (l : List A) → length (trimEnd p l) ≤ length l
   trim-length [] = omega arith
   trim-length (x ∷ l) = go (p x && empty (trimEnd p l)) (trim-length l)
@@ -71,20 +67,14 @@ solid-length s =
     let c = marks-length whiteWidth s in
     omega arith
 
-part-long : (start end : ℕ) (text : List ℕ) → end ≤ length text → length (drop start (take end text)) ≡ end - start
-part-long start end text h =
-    let a : length (take end text) ≡ end = length-take-le end text h in
-    let b : length (drop start (take end text)) ≡ length (take end text) - start = length-drop start (take end text) in
-    omega arith
-
 pub body-inside : (text : List ℕ) (start end : ℕ) → Inside text start end → Inside text (bodyPart text start end .start) (bodyPart text start end .end)
 body-inside text start end z =
     let o = z .order in
     let w = z .within in
-    let a = part-long start end text w in
+    let a = part-length text start end w in
     let b = gap-length true (drop start (take end text)) in
     let from : ℕ = start + length (gapRun true (drop start (take end text))) in
-    let c = part-long (start + length (gapRun true (drop start (take end text)))) end text w in
+    let c = part-length text (start + length (gapRun true (drop start (take end text)))) end w in
     let d = solid-length (drop (start + length (gapRun true (drop start (take end text)))) (take end text)) in
     record { order = omega arith; within = omega arith }
 
@@ -97,9 +87,9 @@ pub word-inside : (white : Bool) (text : List ℕ) (start end : ℕ) → Inside 
 word-inside white text start end z =
     let o = z .order in
     let w = z .within in
-    let a = part-long start end text w in
+    let a = part-length text start end w in
     let b = gap-length white (drop start (take end text)) in
-    let c = part-long (start + length (gapRun white (drop start (take end text)))) end text w in
+    let c = part-length text (start + length (gapRun white (drop start (take end text)))) end w in
     let d = word-length white (drop (start + length (gapRun white (drop start (take end text)))) (take end text)) in
     record { order = omega arith; upto = omega arith; within = w }
 
@@ -122,7 +112,10 @@ unfolding enterBytes enter
 found-bytes r (wrong n) = refl
 found-bytes r (found blank) = refl
 found-bytes r (found (category name invoke group len)) = refl
-found-bytes r (found (range lower upper names)) = ap (λ (k : ℕ). cond (lib.Dec.leb 2048 (length (r .ranges))) (stop 9) (cond (ltb 8192 (Rattle.paper.specs.CharDef.Reading.references (r .ranges) + k)) (stop 10) (Rattle.paper.specs.Computed.ReadText.addRange (intern (map utf8 names) (r .names)) r lower upper (map utf8 names)))) (lib.ListN.length-map names utf8)
+found-bytes r (found (range lower upper names)) =
+    ap (λ k. cond (leb maxRanges (length (r .ranges))) (stop rangesFull)
+    (cond (ltb maxReferences (references (r .ranges) + k)) (stop referencesFull) (addRange (intern (map utf8 names) (r .names)) r lower upper (map utf8 names))))
+    (length-map names utf8)
 
 pub verdict-bytes : (r : Reading) (cs : List ℕ) → enterFoundBytes r (lineBytes (utf8 cs)) ≡ verdict r cs
 unfolding verdict

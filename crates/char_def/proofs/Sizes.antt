@@ -1,13 +1,12 @@
 -- The five lengths that `parse` asks for, tables of just these sizes, and zero in all their places.
 -- Assumes nothing.
-use Prim.Native.Nat.{ℕ, _+_, _*_, _-_, _≤_, _<_}
-use native.Mathlib.Nat.{le-refl}
+use Prim.Native.Nat.{ℕ, _*_, _-_, _≤_}
 use native.Mathlib.Omega.{arith}
 use mathlib.Core.Path.{_≡_, refl, sym, ap, _∙_, subst}
-use mathlib.Core.Bool.{Bool, true, false, not, _&&_}
+use mathlib.Core.Bool.{Bool, true, false, not}
 use mathlib.Core.List.{List, [], _++_, append-nil}
 use lib.Dec.{T, leb}
-use lib.ListN.{length, take, drop, replicate, drop-of-length-le}
+use lib.ListN.{length, take, replicate, drop-of-length-le}
 use lib.Seq.{length-take-le}
 use mir.Facts.{and-yes, yes-and, yes-leb, leb-yes}
 use borrow.Author.Tests.{le-leb}

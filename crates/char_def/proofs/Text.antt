@@ -1,18 +1,16 @@
 -- The loop over lines, in the paper's terms: lines as bytes, and memory that holds nothing. Assumes nothing.
-use Prim.Native.Nat.{ℕ, zero, suc, _+_, _*_, _-_, _≤_}
+use Prim.Native.Nat.{ℕ, suc, _*_, _-_}
 use native.Mathlib.Omega.{arith}
-use mathlib.Core.Path.{_≡_, refl, sym, ap, _∙_, subst}
+use mathlib.Core.Path.{_≡_, refl, ap, _∙_}
 use mathlib.Core.List.{List, [], _∷_, map}
-use lib.ListN.{length, replicate}
+use lib.ListN.{replicate}
 use Rattle.paper.specs.Sizes.{maxCategories, maxNameBytes, maxCategoryLines, maxRanges, maxReferences}
 use Rattle.paper.specs.Text.Scalar.{utf8}
 use Rattle.paper.specs.CharDef.Reading.{Reading, nameBytes, references}
-use Rattle.paper.specs.CharDef.Reading.{Answer, accepted, refused}
 use Rattle.paper.specs.Computed.ReadText.{Step, go-on, stop, afterLine, verdict, readLines, nothingRead}
 use Rattle.paper.specs.Tables.Layout.{nameSlots, rangeSlots, definitionSize, rangeSlotSize, referenceSize}
 use Rattle.paper.specs.Tables.Lent.{padded}
-use Rattle.line.specs.Marks.{lineBytes}
-use Rattle.char_def.specs.Steps.{enterFoundBytes, Held}
+use Rattle.char_def.specs.Steps.{Held}
 use Rattle.char_def.specs.Lines.{readBytes}
 use Rattle.char_def.proofs.Inside.{verdict-bytes}
 

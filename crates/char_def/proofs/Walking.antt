@@ -1,18 +1,17 @@
 -- The walk over the lines: what is left of them, entered behind the reading so far, gives the answer to all.
 -- Assumes nothing.
-use Prim.Native.Nat.{ℕ, suc, _+_, _*_, _-_, _≤_, _<_}
+use Prim.Native.Nat.{ℕ, suc, _+_, _*_, _≤_, _<_}
 use native.Mathlib.Numerals.{add-one}
 use native.Mathlib.Omega.{arith}
-use mathlib.Core.Path.{_≡_, refl, sym, ap, ap₂, _∙_}
-use mathlib.Core.List.{List, [], _∷_, map}
+use mathlib.Core.Path.{_≡_, sym, ap, _∙_}
+use mathlib.Core.List.{List, map}
 use lib.ListN.{length, take, drop, length-map}
 use Rattle.paper.specs.Sizes.{maxTextBytes, maxCategories, maxNameBytes, maxCategoryLines, maxRanges, maxReferences}
-use Rattle.paper.specs.Lists.{joined, until, cut}
+use Rattle.paper.specs.Lists.{joined, until}
 use Rattle.paper.specs.Numbers.Bytes.{le}
-use Rattle.paper.specs.CharDef.Reading.{Reading, Answer, accepted, refused, nameBytes, isLF}
-use Rattle.paper.specs.Computed.ReadText.{Step, go-on, stop, afterLine, nothingRead}
+use Rattle.paper.specs.CharDef.Reading.{Reading, refused, nameBytes, isLF}
+use Rattle.paper.specs.Computed.ReadText.{stop, afterLine, nothingRead}
 use Rattle.paper.specs.Tables.Layout.{nameSlots, rangeSlots, definitionBytes, slotBytes, numbersOf, definitionSize, rangeSlotSize, referenceSize}
-use Rattle.paper.specs.Tables.Lent.{padded}
 use Rattle.paper.specs.declared.Counts.{Counts}
 use Rattle.paper.proofs.Lists.Facts.{joined-length}
 use Rattle.paper.proofs.Tables.Append.{padded-length}
@@ -21,7 +20,6 @@ use Rattle.paper.proofs.Tables.Trip.{places-length, rows-length, numbers-length
 use Rattle.line.specs.Marks.{lineBytes}
 use Rattle.line.specs.Asked.{Inside}
 use Rattle.name.specs.Slots.{slotWord}
-use Rattle.char_def.specs.declared.Refusal.{Refusal}
 use Rattle.char_def.specs.Steps.{Memory, Held, Working, Went, enterFoundBytes}
 use Rattle.char_def.specs.Lines.{readBytes, readAll, linesFrom, WalkEnded}
 use Rattle.char_def.proofs.Scan.{lines-all, lines-none, lines-next, end-inside}

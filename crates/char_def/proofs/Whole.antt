@@ -1,26 +1,24 @@
 -- From the parts to the whole: which answer each way through `parse` is, and what it leaves.
 -- Assumes nothing.
-use Prim.Native.Nat.{ℕ, _+_, _*_, _-_, _≤_, _<_}
+use Prim.Native.Nat.{ℕ, _*_, _-_, _≤_, _<_}
 use native.Mathlib.Nat.{le-refl}
 use native.Mathlib.Omega.{arith}
-use mathlib.Core.Path.{_≡_, refl, sym, ap, ap₂, _∙_, subst}
-use mathlib.Core.Bool.{Bool, true, false, cond}
-use mathlib.Core.List.{List, [], _++_, map}
-use lib.Dec.{T, leb, ltb}
+use mathlib.Core.Path.{_≡_, refl, sym, ap, _∙_, subst}
+use mathlib.Core.Bool.{true, false, cond}
+use mathlib.Core.List.{List, [], _++_}
 use lib.ListN.{length, take, drop, replicate}
 use lib.Seq.{take-length}
 use borrow.Author.Tests.{le-leb, lt-leb, le-ltb}
 use Rattle.paper.specs.Sizes.{maxTextBytes, maxCategories, maxNameBytes, maxCategoryLines, maxRanges, maxReferences}
 use Rattle.paper.specs.Refusals.{roomShort, textLong, textIllFormed, rangeParts}
 use Rattle.paper.specs.Lists.{cut}
-use Rattle.paper.specs.Text.Scalar.{utf8, WellFormed, LongestPrefix}
-use Rattle.paper.specs.CharDef.Reading.{Reading, Answer, accepted, refused, isLF}
+use Rattle.paper.specs.Text.Scalar.{WellFormed, LongestPrefix}
+use Rattle.paper.specs.CharDef.Reading.{accepted, refused, isLF}
 use Rattle.paper.specs.CharDef.Bad.{BadText, too-long, ill-formed, bad-line}
 use Rattle.paper.specs.Computed.Decode.{chars, decode}
-use Rattle.paper.specs.Computed.ReadText.{readLines, nothingRead, readChars, readText}
-use Rattle.paper.specs.Tables.Layout.{Tables, layout, inRoom, behind, countsOf, nameSlotSize, definitionSize, rangeSlotSize, referenceSize}
+use Rattle.paper.specs.Computed.ReadText.{nothingRead, readChars, readText}
+use Rattle.paper.specs.Tables.Layout.{Tables, inRoom, behind, nameSlotSize, definitionSize, rangeSlotSize, referenceSize}
 use Rattle.paper.specs.Tables.Lent.{zeroed, padded}
-use Rattle.paper.specs.declared.Counts.{Counts}
 use Rattle.paper.proofs.Text.Bytes.{cut-utf8}
 use Rattle.paper.proofs.Text.Code.{decode-complete, well-formed}
 use Rattle.paper.proofs.CharDef.FirstBad.{LF-ascii}
@@ -29,9 +27,9 @@ use Rattle.paper.proofs.CharDef.Answers.{refused-text, too-long-exactly, ill-fo
 use Rattle.paper.proofs.Tables.Trip.{tables-is}
 use Rattle.char_def.specs.declared.Outcome.{Outcome}
 use Rattle.char_def.specs.declared.Outcome.the-variants.{Accepted, Refused}
-use Rattle.char_def.specs.Lines.{readBytes, readAll, Sized, noTables, LinesRead}
-use Rattle.char_def.specs.Parse.{roomFor, hasRoom, answerTo, given, past, cleared, leaves, Parsed}
-use Rattle.char_def.proofs.Sizes.{Room, RoomIn, room-is}
+use Rattle.char_def.specs.Lines.{readBytes, readAll, noTables, LinesRead}
+use Rattle.char_def.specs.Parse.{hasRoom, answerTo, given, past, cleared, leaves, Parsed}
+use Rattle.char_def.proofs.Sizes.{RoomIn, room-is}
 use Rattle.char_def.proofs.Text.{read-bytes}
 
 -- ---- the answer

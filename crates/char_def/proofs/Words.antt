@@ -1,29 +1,29 @@
--- The words of a range line, counted and entered one after another. Assumes nothing.
+-- The words of a range line, counted and entered one after another: what is left of them gives the whole.
+-- Assumes nothing.
 use Prim.Native.Nat.{ℕ, zero, suc, _+_, _*_, _-_, _≤_, _<_}
-use native.Mathlib.Numerals.{add-one}
 use native.Mathlib.Omega.{arith}
 use mathlib.Core.Path.{_≡_, refl, sym, ap, ap₂, _∙_, subst}
-use mathlib.Core.Bool.{Bool, true, false, cond, _&&_, _||_}
+use mathlib.Core.Bool.{Bool, true, false, cond, _||_}
 use mathlib.Core.List.{List, [], _∷_, _++_, map, append-assoc, append-nil}
 use lib.Dec.{T}
-use lib.ListN.{length, take, drop, set, length-append, length-map, length-drop, drop-of-length-le}
-use lib.Seq.{length-take-le}
+use lib.ListN.{length, take, drop, set, length-append, length-map}
 use mir.Facts.{and-yes, yes-and}
-use Rattle.paper.specs.Lists.{all, any, same, positionOf, joined}
-use Rattle.paper.proofs.Lists.Facts.{T→true, true→T, all-append, all-imp}
+use Rattle.paper.specs.Sizes.{maxCategories, maxNameBytes}
+use Rattle.paper.specs.Lists.{all, any, words, same, positionOf, joined}
+use Rattle.paper.proofs.Lists.Parts.{nothing, part-length}
+use Rattle.paper.proofs.Lists.Facts.{true→T, all-imp}
 use Rattle.paper.proofs.Lists.Seen.{same-eq, position-stays}
 use Rattle.paper.specs.Computed.ReadText.{intern, internOne, Interned, names-are, full-at, afterOne}
 use Rattle.paper.specs.Numbers.Bytes.{le}
-use Rattle.paper.specs.Tables.Lent.{patch, padded}
-use Rattle.paper.proofs.Tables.Laws.{short, patch-in, patch-length, table-length}
+use Rattle.paper.specs.Tables.Lent.{patch}
+use Rattle.paper.proofs.Tables.Laws.{patch-in, patch-length, table-length}
 use Rattle.paper.proofs.Tables.Trip.{wide-number}
 use Rattle.paper.proofs.Tables.Append.{patch-patch, table-snoc}
-use Rattle.line.specs.Marks.{wordsBytes, gapWidth, marks}
+use Rattle.line.specs.Marks.{wordsBytes, gapWidth, byte, inGap}
 use Rattle.line.proofs.Bridge.{marks-nil}
 use Rattle.line.specs.declared.Part.{Part}
 use Rattle.line.specs.Answer.{word-and, bytesOf, NextWord}
 use Rattle.name.specs.declared.Numbered.{Numbered}
-use Rattle.name.specs.declared.Entry.{Entry}
 use Rattle.name.specs.declared.Entry.the-variants.{Number, Full}
 use Rattle.name.specs.Names.{Laid, Numbers, Enters, Room}
 use Rattle.char_def.specs.declared.Names.{Names}
@@ -31,18 +31,9 @@ use Rattle.char_def.specs.Steps.{wordsOf, Ready, AllIn}
 
 -- ---- one word
 
-nothing : (l : List ℕ) (a b : ℕ) → b ≤ a → drop a (take b l) ≡ []
-nothing l a b h = let e : length (take b l) ≤ b = short b l in let g : length (take b l) ≤ a = omega arith in drop-of-length-le (take b l) g
-
-pub part-length : (start end : ℕ) (text : List ℕ) → end ≤ length text → length (drop start (take end text)) ≡ end - start
-part-length start end text h =
-    let a : length (take end text) ≡ end = length-take-le end text h in
-    let b : length (drop start (take end text)) ≡ length (take end text) - start = length-drop start (take end text) in
-    omega arith
-
 no-words : (l : List ℕ) → l ≡ [] → wordsOf l ≡ []
 unfolding wordsOf wordsBytes
-no-words l e = ap (λ (s : List ℕ). wordsBytes (gapWidth true) s) e ∙ ap (λ ms. map (map (λ (m : ℕ × Bool). m .0)) (Rattle.paper.specs.Lists.words (λ (m : ℕ × Bool). m .1) ms)) (marks-nil (gapWidth true))
+no-words l e = ap (λ (s : List ℕ). wordsBytes (gapWidth true) s) e ∙ ap (λ ms. map (map byte) (words inGap ms)) (marks-nil (gapWidth true))
 
 pub ended : (text : List ℕ) (at end : ℕ) → end ≤ at → wordsOf (drop at (take end text)) ≡ []
 ended text at end h = no-words (drop at (take end text)) (nothing text at end h)
@@ -56,7 +47,7 @@ module _ (text : List ℕ) (at end : ℕ) (w : Part) (n : NextWord text at end t
   unfolding wordsOf
   a-word h =
       let k = n .inside h in
-      let e : length (bytesOf text w) ≡ w .end - w .start = part-length (w .start) (w .end) text k in
+      let e : length (bytesOf text w) ≡ w .end - w .start = part-length text (w .start) (w .end) k in
       n .words ∙ go (bytesOf text w) (omega arith)
     where
       go : (s : List ℕ) → 0 < length s → word-and s (wordsBytes (gapWidth true) (drop (w .end) (take end text))) ≡ s ∷ wordsBytes (gapWidth true) (drop (w .end) (take end text))
@@ -117,9 +108,6 @@ position-less w (x ∷ ns) e = go (same w x) e (position-less w ns)
         → cond b zero (suc (positionOf same w ns)) < suc (length ns)
     go true e ih = omega arith
     go false e ih = let h = ih e in omega arith
-
-pub numbersOf : List (List ℕ) → List (List ℕ) → List ℕ
-numbersOf names ws = map (λ w. positionOf same w names) ws
 
 numbers-stay : (ns more ws : List (List ℕ)) → T (all (λ w. any (same w) ns) ws)
     → map (λ w. positionOf same w ns) ws ≡ map (λ w. positionOf same w (ns ++ more)) ws
@@ -212,13 +200,13 @@ pub record Entering (text store₀ slots₀ refs₀ : List ℕ) (n count bytes s
   pub ready : Ready store₀ slots₀ refs₀ text n count bytes start end
   pub upto : at ≤ end
   pub within : end ≤ length text
-  pub store-long : 16384 ≤ length store
-  pub slots-long : 512 ≤ length slots
+  pub store-long : maxNameBytes ≤ length store
+  pub slots-long : maxCategories ≤ length slots
   pub store-kept : length store ≡ length store₀
   pub slots-kept : length slots ≡ length slots₀
   pub refs-kept : length refs ≡ length refs₀
-  pub many-few : many ≤ 512
-  pub used-short : used ≤ 16384
+  pub many-few : many ≤ maxCategories
+  pub used-short : used ≤ maxNameBytes
   pub each : (names : List (List ℕ)) → Laid names store₀ slots₀ count bytes
       → SoFar names (wordsOf (drop start (take end text))) n refs₀ store slots refs (wordsOf (drop at (take end text))) next many used
 
@@ -291,7 +279,7 @@ module _ {text store₀ slots₀ refs₀ : List ℕ} {n count bytes start end : 
       here : Numbers (z .each (z .ready .names) (z .ready .laid) .now-names) (bytesOf text w) store′ slots′ e
       here = let s = z .each (z .ready .names) (z .ready .laid) in f (s .now-names) (s .laid-now)
 
-      pub enter-number : e .number < 512
+      pub enter-number : e .number < maxCategories
       enter-number =
           let u = here in
           let p : positionOf same (bytesOf text w) (u .now-names) < length (u .now-names) = position-less (bytesOf text w) (u .now-names) (u .there) in

@@ -1,12 +1,12 @@
 -- What walking the lines of a text promises, on bytes.
 -- Assumes nothing.
-use Prim.Native.Nat.{ℕ, suc, _+_, _*_, _≤_}
+use Prim.Native.Nat.{ℕ, suc, _*_}
 use mathlib.Core.Path.{_≡_}
 use mathlib.Core.Bool.{cond}
 use mathlib.Core.List.{List, [], _∷_}
 use lib.Dec.{leb}
-use lib.ListN.{length, drop, replicate}
-use Rattle.paper.specs.Sizes.{maxTextBytes, maxCategories, maxNameBytes, maxCategoryLines, maxRanges, maxReferences}
+use lib.ListN.{length, drop}
+use Rattle.paper.specs.Sizes.{maxCategories, maxNameBytes, maxCategoryLines, maxRanges, maxReferences}
 use Rattle.paper.specs.Lists.{cut}
 use Rattle.paper.specs.CharDef.Reading.{Reading, Answer, accepted, refused, isLF}
 use Rattle.paper.specs.Computed.ReadText.{afterLine, nothingRead}

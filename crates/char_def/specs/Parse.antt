@@ -9,7 +9,7 @@ use lib.Dec.{leb}
 use lib.ListN.{length, drop}
 use Rattle.paper.specs.Sizes.{maxCategories, maxNameBytes, maxCategoryLines, maxRanges, maxReferences}
 use Rattle.paper.specs.Refusals.{roomShort, rangeParts}
-use Rattle.paper.specs.CharDef.Reading.{Reading, Answer, accepted, refused}
+use Rattle.paper.specs.CharDef.Reading.{Answer, accepted, refused}
 use Rattle.paper.specs.Computed.ReadText.{readText}
 use Rattle.paper.specs.Tables.Layout.{Tables, layout, inRoom, behind, countsOf, nameSlotSize, definitionSize, rangeSlotSize, referenceSize}
 use Rattle.paper.specs.Tables.Lent.{zeroed}

@@ -1,21 +1,22 @@
--- What entering names and lines promises, on bytes. Assumes nothing.
-use Prim.Native.Nat.{ℕ, suc, _+_, _*_, _≤_}
+-- What entering names and lines promises, on bytes.
+-- Assumes nothing.
+use Prim.Native.Nat.{ℕ, _+_, _*_, _≤_}
 use mathlib.Core.Path.{_≡_}
-use mathlib.Core.Bool.{Bool, true, false, cond}
-use mathlib.Core.List.{List, [], _∷_, _++_, map}
+use mathlib.Core.Bool.{true, cond}
+use mathlib.Core.List.{List, [], _∷_, map}
 use lib.Dec.{leb, ltb}
 use lib.ListN.{length, take, drop}
 use Rattle.paper.specs.Sizes.{maxCategories, maxNameBytes, maxCategoryLines, maxRanges, maxReferences}
 use Rattle.paper.specs.Refusals.{rangesFull, referencesFull, categoryLinesFull}
-use Rattle.paper.specs.Lists.{any, same, positionOf, joined}
+use Rattle.paper.specs.Lists.{same, positionOf, joined}
 use Rattle.paper.specs.CharDef.Line.{Line, blank, category, range}
-use Rattle.paper.specs.CharDef.Reading.{Reading, Definition, Range, references}
+use Rattle.paper.specs.CharDef.Reading.{Reading, references}
 use Rattle.paper.specs.Computed.ReadText.{Found, found, wrong, Step, go-on, stop, intern, names-are, full-at, addRange, addDefinition}
 use Rattle.paper.specs.Numbers.Bytes.{le}
 use Rattle.paper.specs.Tables.Layout.{definitionBytes, rangeTable, referenceTable, definitionSize, rangeSlotSize, referenceSize}
 use Rattle.paper.specs.Tables.Lent.{patch, padded}
 use Rattle.paper.specs.declared.Counts.{Counts}
-use Rattle.line.specs.Marks.{wordsBytes, gapWidth, lineBytes}
+use Rattle.line.specs.Marks.{wordsBytes, gapWidth}
 use Rattle.name.specs.Names.{Laid}
 use Rattle.char_def.specs.declared.Names.{Names}
 use Rattle.char_def.specs.declared.NamesStep.{NamesStep}
@@ -57,7 +58,7 @@ pub record Ready (store slots refs text : List ℕ) (n count bytes start end : �
   pub laid : Laid names store slots count bytes
   pub order : start ≤ end
   pub within : end ≤ length text
-  pub room : 2 * (n + length (wordsOf (drop start (take end text)))) ≤ length refs
+  pub room : referenceSize * (n + length (wordsOf (drop start (take end text)))) ≤ length refs
   pub few : n + length (wordsOf (drop start (take end text))) ≤ maxReferences
 
 -- all these were entered, and their numbers stand in the reference table
@@ -66,7 +67,7 @@ pub record AllIn (names : List (List ℕ)) (ws : List (List ℕ)) (n : ℕ) (ref
   pub entered : intern ws names ≡ names-are now-names
   pub laid-now : Laid now-names store slots (d .count) (d .bytes)
   pub next-is : d .next ≡ n + length ws
-  pub put : refs ≡ patch (2 * n) (joined (map (le 2) (map (λ w. positionOf same w now-names) ws))) refs₀
+  pub put : refs ≡ patch (referenceSize * n) (joined (map (le referenceSize) (map (λ w. positionOf same w now-names) ws))) refs₀
 
 abbrev pub EntersAll : (store₀ slots₀ refs₀ : List ℕ) (n count bytes : ℕ) (ws : List (List ℕ)) (store₁ slots₁ refs₁ : List ℕ) → NamesStep → Type 0
 EntersAll store₀ slots₀ refs₀ n count bytes ws store₁ slots₁ refs₁ (Done d) =

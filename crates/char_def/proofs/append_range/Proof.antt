@@ -1,4 +1,5 @@
-use native.Mathlib.Omega.{arith}
+-- `char_def::append_range` meets its contract: four writes are one patch by the entry's bytes.
+-- Assumes nothing.
 use Rattle.char_def.proofs.Entered.{four-puts}
 use borrow.Author.Needs.{needs}
 use Rattle.char_def.proofs.append_range.Statement.{statement}

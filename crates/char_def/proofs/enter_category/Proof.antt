@@ -1,16 +1,15 @@
-use Prim.Native.Nat.{ℕ, _-_, _+_, _*_, _≤_, _<_}
+-- `char_def::enter_category` meets its contract: each way through is a case of `Entered`.
+-- Assumes nothing.
 use native.Mathlib.Omega.{arith}
-use mathlib.Core.Path.{_≡_, refl, sym, ap, _∙_, subst}
-use mathlib.Core.List.{List}
 use denote.Ref.{now}
-use lib.ListN.{length, take, drop}
-use Rattle.char_def.proofs.Entered.{line-11, line-full, line-category}
+use lib.ListN.{take, drop}
+use Rattle.char_def.proofs.Entered.{line-lines-full, line-full, line-category}
 use borrow.Author.Needs.{needs}
 use Rattle.char_def.proofs.enter_category.Statement.{statement}
 use Rattle.char_def.proofs.enter_category.Tie as tie
 
 returns : tie.Need-returns
-returns c r z = let a = (c .before .before .before .before .before .before .before .args) in let n = drop (a .line .name .start) (take (a .line .name .end) (now (a .text))) in line-11 z n (a .line .invoke) (a .line .group) (a .line .length) (omega arith)
+returns c r z = let a = (c .before .before .before .before .before .before .before .args) in let n = drop (a .line .name .start) (take (a .line .name .end) (now (a .text))) in line-lines-full z n (a .line .invoke) (a .line .group) (a .line .length) (omega arith)
 
 category-id-requires : tie.Need-category-id-requires
 category-id-requires c κs = search needs

@@ -1,17 +1,16 @@
-use Prim.Native.Nat.{ℕ, _-_, _+_, _*_, _≤_, _<_}
+-- `char_def::enter_range` meets its contract: each way through is a case of `Entered`.
+-- Assumes nothing.
 use native.Mathlib.Omega.{arith}
-use mathlib.Core.Path.{_≡_, refl, sym, ap, _∙_, subst}
-use mathlib.Core.List.{List}
 use denote.Ref.{now}
-use lib.ListN.{length, take, drop}
+use lib.ListN.{take, drop}
 use Rattle.char_def.specs.Steps.{wordsOf}
-use Rattle.char_def.proofs.Entered.{line-9, line-10, line-no-name, line-range}
+use Rattle.char_def.proofs.Entered.{line-ranges-full, line-references-full, line-no-name, line-range}
 use borrow.Author.Needs.{needs}
 use Rattle.char_def.proofs.enter_range.Statement.{statement}
 use Rattle.char_def.proofs.enter_range.Tie as tie
 
 returns : tie.Need-returns
-returns c r z = let a = (c .before .before .before .before .before .before .before .args) in let ws = wordsOf (drop (a .line .names .start) (take (a .line .names .end) (now (a .text)))) in line-9 z (a .line .lower) (a .line .upper) ws (omega arith)
+returns c r z = let a = (c .before .before .before .before .before .before .before .args) in let ws = wordsOf (drop (a .line .names .start) (take (a .line .names .end) (now (a .text)))) in line-ranges-full z (a .line .lower) (a .line .upper) ws (omega arith)
 
 count-words-requires : tie.Need-count-words-requires
 count-words-requires c κs = search needs
@@ -20,7 +19,7 @@ sub-if2 : tie.Need-sub-if2
 sub-if2 c = search needs
 
 returns-2 : tie.Need-returns-2
-returns-2 c r z = let a = (c .before .before .before .before .before .before .before .before .before .before .args) in let ws = wordsOf (drop (a .line .names .start) (take (a .line .names .end) (now (a .text)))) in let e = (c .before .count-words .ensures) in let f = z .references-few in let i = (c .if2 .taken) in line-10 z (a .line .lower) (a .line .upper) ws (omega arith) (omega arith)
+returns-2 c r z = let a = (c .before .before .before .before .before .before .before .before .before .before .args) in let ws = wordsOf (drop (a .line .names .start) (take (a .line .names .end) (now (a .text)))) in let e = (c .before .count-words .ensures) in let f = z .references-few in let i = (c .if2 .taken) in line-references-full z (a .line .lower) (a .line .upper) ws (omega arith) (omega arith)
 
 enter-names-requires : tie.Need-enter-names-requires
 enter-names-requires c κs = let p = (c .before .before .before .before .before .before .before .before .before .before .before .before .before .pre .0) in let q = (c .before .before .before .before .before .before .before .before .before .before .before .before .before .pre .1) in let e = (c .before .before .before .before .count-words .ensures) in let f = p .held .references-few in let i = (c .before .before .before .if2 .left) in let s = p .store-long in let t = p .slots-long in let u = p .references-long in record { store-long = omega arith; slots-long = omega arith; names = p .reading .names; laid = p .held .names; order = q .order; within = q .within; room = omega arith; few = omega arith }

@@ -1,7 +1,6 @@
 -- `char_def::line_end` meets its contract: the loop keeps `Seeking`.
 -- Assumes nothing.
 use Prim.Native.Nat.{_-_}
-use native.Mathlib.Omega.{arith}
 use lib.ListN.{length}
 use borrow.Author.Needs.{needs}
 use Rattle.char_def.proofs.Scan.{Seeking, seek-start, seek-found, seek-on, seek-end}
