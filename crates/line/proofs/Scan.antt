@@ -15,7 +15,7 @@ use lib.Dec.{T, eqb}
 use lib.ListN.{length, take, drop, getD, length-append, take-append-drop}
 use lib.Seq.{drop-drop, length-take-le}
 use borrow.Author.Tests.{ne-eqb}
-use Rattle.paper.specs.Text.Scalar.{hash}
+use Rattle.paper.specs.Text.Scalar.{isWhite, hash}
 use Rattle.paper.specs.Lists.{all, full, empty, until, trimEnd}
 use Rattle.paper.proofs.Lists.Facts.{un}
 use Rattle.paper.proofs.Lists.Parts.{nothing, uncons, part-length}
@@ -251,3 +251,10 @@ module _ (l : List ℕ) (at end : ℕ) (white : Bool) where
   pub width-white : white ≡ true → {w : ℕ} → w ≡ whiteWidth (drop at (take end l)) → w ≡ gapWidth white (drop at (take end l))
   unfolding gapWidth
   width-white e f = f ∙ ap (λ b. gapWidth b (drop at (take end l))) (sym e)
+
+pub width-hash : (l : List ℕ) (at end : ℕ) → at < end → end ≤ length l → getD l at 0 ≡ hash → 0 ≡ gapWidth true (drop at (take end l))
+unfolding isWhite
+width-hash l at end h k e =
+    let q : getD l at 0 ≤ 0x7F = omega arith in
+    sym
+    (ap (gapWidth true) (uncons l at end h k) ∙ gap-ascii true (getD l at 0) (drop (at + 1) (take end l)) q ∙ ap (λ b. cond (isWhite b) 1 0) e)

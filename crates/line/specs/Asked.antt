@@ -1,12 +1,12 @@
 -- What the functions inside this crate ask and promise: places of `..`, the fields of a category line, and the answers that they give.
 -- Assumes nothing.
-use Prim.Native.Nat.{ℕ, _+_, _≤_}
+use Prim.Native.Nat.{ℕ, _+_, _≤_, _<_}
 use mathlib.Core.Path.{_≡_}
 use mathlib.Core.Logic.{_≢_}
 use mathlib.Core.Bool.{false}
 use mathlib.Core.List.{List, [], _∷_}
 use lib.Dec.{eqb}
-use lib.ListN.{length, take, drop}
+use lib.ListN.{length, take, drop, getD}
 use Rattle.paper.specs.Sizes.{lineFields}
 use Rattle.paper.specs.Refusals.{categoryNumber}
 use Rattle.paper.specs.Computed.ReadText.{parts}
@@ -30,6 +30,12 @@ use Rattle.line.specs.Answer.{bytesOf, wordPart}
 pub record Inside (text : List ℕ) (start end : ℕ) : Type 0 where
   pub order : start ≤ end
   pub within : end ≤ length text
+
+-- a byte of the part, from 80 on
+pub record Wide (text : List ℕ) (at end : ℕ) : Type 0 where
+  pub here : at < end
+  pub within : end ≤ length text
+  pub high : 0x80 ≤ getD text at 0
 
 -- ---- the bounds
 

@@ -15,7 +15,7 @@ ghost use Rattle.paper.specs.Computed.ReadText.{rangeOf, categoryOf};
 ghost use Rattle.numeral.specs.Asked.{Least};
 ghost use Rattle.line.specs.Marks.{gapByte, gapWidth, wordsBytes, lineBytes};
 ghost use Rattle.line.specs.Answer.{gapRun, wordRun, solid, NextWord, Body, part, bodyPart, Says};
-ghost use Rattle.line.specs.Asked.{Inside, Dots, rangeAnswer, FieldsAre, categoryAnswer};
+ghost use Rattle.line.specs.Asked.{Inside, Wide, Dots, rangeAnswer, FieldsAre, categoryAnswer};
 
 const TAB: u8 = 0x09;
 
@@ -109,20 +109,13 @@ fn is_gap(b: u8, white: bool) -> bool
     }
 }
 
-// How many bytes of a gap between words stand at `at`: White_Space, or a category line's separator.
-fn gap_width(text: &[u8], at: usize, end: usize, white: bool) -> usize
-    requires { ⌜ (at < end) × (end ≤ length (now text)) ⌝ }
+// How many bytes of a gap stand at `at`, where no ASCII character does: those of White_Space. The scans see to ASCII themselves.
+fn wide_gap(text: &[u8], at: usize, end: usize, white: bool) -> usize
+    requires { ⌜ Wide (now text) at end ⌝ }
     ensures { λ r. ⌜ r ≡ gapWidth white (drop at (take end (now (text .entry)))) ⌝ }
 {
-    let b = text[at];
-    if b < ASCII_END {
-        if is_gap(b, white) {
-            return 1;
-        }
-        return 0;
-    }
     if white {
-        return match b {
+        return match text[at] {
             WHITE_LEAD_2 | WHITE_LEAD_3..=WHITE_LEAD_3_END => text::white_width(&text[..end], at),
             _ => 0,
         };
@@ -137,11 +130,20 @@ fn skip_gap(text: &[u8], start: usize, end: usize, white: bool) -> usize
 {
     let mut at = start;
     while at < end {
-        let w = gap_width(text, at, end, white);
-        if w == 0 {
-            return at;
+        let b = text[at];
+        if b < ASCII_END {
+            if is_gap(b, white) {
+                at += 1;
+            } else {
+                return at;
+            }
+        } else {
+            let w = wide_gap(text, at, end, white);
+            if w == 0 {
+                return at;
+            }
+            at += w;
         }
-        at += w;
     }
     at
 }
@@ -153,11 +155,19 @@ fn word_end(text: &[u8], start: usize, end: usize, white: bool) -> usize
 {
     let mut at = start;
     while at < end {
-        let w = gap_width(text, at, end, white);
-        if 0 < w {
-            return at;
+        let b = text[at];
+        if b < ASCII_END {
+            if is_gap(b, white) {
+                return at;
+            }
+            at += 1;
+        } else {
+            let w = wide_gap(text, at, end, white);
+            if 0 < w {
+                return at;
+            }
+            at += 1;
         }
-        at += 1;
     }
     at
 }
@@ -170,15 +180,25 @@ fn solid_end(text: &[u8], start: usize, end: usize) -> usize
     let mut at = start;
     let mut last = start;
     while at < end {
-        let w = gap_width(text, at, end, true);
-        if w == 0 {
-            if text[at] == b'#' {
-                return last;
+        let b = text[at];
+        if b == b'#' {
+            return last;
+        }
+        if b < ASCII_END {
+            if is_gap(b, true) {
+                at += 1;
+            } else {
+                at += 1;
+                last = at;
             }
-            at += 1;
-            last = at;
         } else {
-            at += w;
+            let w = wide_gap(text, at, end, true);
+            if w == 0 {
+                at += 1;
+                last = at;
+            } else {
+                at += w;
+            }
         }
     }
     last
