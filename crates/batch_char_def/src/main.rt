@@ -9,12 +9,19 @@ use libc::STDOUT_FILENO;
 use paper::Counts;
 
 const TEXT_ROOM: usize = 70000;
+
 const FILL: u8 = 0xA5;
+
 const GUARD: usize = 16;
+
 const NAMES: usize = 16384 + 16;
+
 const CATEGORIES: usize = 2048 + 16;
+
 const DEFINITIONS: usize = 3072 + 16;
+
 const RANGES: usize = 16384 + 16;
+
 const REFERENCES: usize = 16384 + 16;
 
 // The number that says: memory is not as it should be.
@@ -92,7 +99,14 @@ fn is_kept(room: &[u8], used: usize, rest: u8) -> bool {
 }
 
 // 0 where every room is as it should be, else the number of the first that is not, from 1.
-fn fault(u: Used, names: &[u8], categories: &[u8], definitions: &[u8], ranges: &[u8], references: &[u8]) -> u64 {
+fn fault(
+    u: Used,
+    names: &[u8],
+    categories: &[u8],
+    definitions: &[u8],
+    ranges: &[u8],
+    references: &[u8],
+) -> u64 {
     if !is_kept(names, u.names, u.rest) {
         return 1;
     }
@@ -151,7 +165,14 @@ fn put_counts(c: Counts) {
     put_u16(c.bytes);
 }
 
-fn put_answer(answer: Outcome, names: &[u8], categories: &[u8], definitions: &[u8], ranges: &[u8], references: &[u8]) {
+fn put_answer(
+    answer: Outcome,
+    names: &[u8],
+    categories: &[u8],
+    definitions: &[u8],
+    ranges: &[u8],
+    references: &[u8],
+) {
     let u = used_by(answer);
     let wrong = fault(u, names, categories, definitions, ranges, references);
     if wrong != 0 {
@@ -175,7 +196,14 @@ fn put_answer(answer: Outcome, names: &[u8], categories: &[u8], definitions: &[u
     }
 }
 
-fn answer(text: &[u8], names: &mut [u8], categories: &mut [u8], definitions: &mut [u8], ranges: &mut [u8], references: &mut [u8]) {
+fn answer(
+    text: &[u8],
+    names: &mut [u8],
+    categories: &mut [u8],
+    definitions: &mut [u8],
+    ranges: &mut [u8],
+    references: &mut [u8],
+) {
     let found = char_def::parse(text, names, categories, definitions, ranges, references);
     put_answer(found, names, categories, definitions, ranges, references);
 }
@@ -186,7 +214,14 @@ fn answer_one(text: &[u8]) {
     let mut definitions = [FILL; DEFINITIONS];
     let mut ranges = [FILL; RANGES];
     let mut references = [FILL; REFERENCES];
-    answer(text, &mut names, &mut categories, &mut definitions, &mut ranges, &mut references);
+    answer(
+        text,
+        &mut names,
+        &mut categories,
+        &mut definitions,
+        &mut ranges,
+        &mut references,
+    );
 }
 
 // ---- records
@@ -203,7 +238,10 @@ fn next_record(room: &mut [u8]) -> bool {
     if io::read_full(STDIN_FILENO, &mut head) != 4 {
         return false;
     }
-    let size = wide(head[0]) + wide(head[1]) * 256 + wide(head[2]) * 65536 + wide(head[3]) * 16777216;
+    let size = wide(head[0])
+        + wide(head[1]) * 256
+        + wide(head[2]) * 65536
+        + wide(head[3]) * 16777216;
     let n = least(room, size);
     if n != size {
         return false;

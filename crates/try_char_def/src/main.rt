@@ -8,23 +8,35 @@ use libc::STDOUT_FILENO;
 use paper::Counts;
 
 const LIST_ROOM: usize = 524288;
+
 const TEXT_ROOM: usize = 73728;
+
 const BASE_ROOM: usize = 4096;
 
 // What lies in a room before the reader is called, and how many bytes of it stand behind each size.
 const FILL: u8 = 0xA5;
+
 const GUARD: usize = 16;
+
 const NAMES: usize = 16384 + 16;
+
 const CATEGORIES: usize = 2048 + 16;
+
 const DEFINITIONS: usize = 3072 + 16;
+
 const RANGES: usize = 16384 + 16;
+
 const REFERENCES: usize = 16384 + 16;
 
 // FNV-1a of 32 bits: what it begins with, its factor, and its sums over rooms that were left alone and over zero rooms.
 const SUM_START: u64 = 2166136261;
+
 const SUM_FACTOR: u64 = 16777619;
+
 const SUM_SIZE: u64 = 4294967296;
+
 const SUM_KEPT: u64 = 0x323c81c5;
+
 const SUM_ZERO: u64 = 0x3ecbadc5;
 
 // Where the list is read, how long the text and the base are, which room is short (5: none), and whether a line ended here.
@@ -137,7 +149,15 @@ fn put_digits(text: &mut [u8], at: usize, n: usize) -> usize {
 }
 
 // Head, number and tail for each number from first up to last.
-fn put_numbered(list: &[u8], head: usize, tail: usize, text: &mut [u8], size: usize, first: usize, last: usize) -> usize {
+fn put_numbered(
+    list: &[u8],
+    head: usize,
+    tail: usize,
+    text: &mut [u8],
+    size: usize,
+    first: usize,
+    last: usize,
+) -> usize {
     let mut end = size;
     let mut k = first;
     while k <= last {
@@ -253,13 +273,30 @@ fn answer_agrees(list: &[u8], kind: u8, at: usize, answer: Outcome) -> bool {
 }
 
 // The reader's answer and what it leaves in rooms that are filled, and longer than the sizes.
-fn agrees(list: &[u8], at: usize, text: &[u8], short: usize, names: &mut [u8], categories: &mut [u8], definitions: &mut [u8], ranges: &mut [u8], references: &mut [u8]) -> bool {
+fn agrees(
+    list: &[u8],
+    at: usize,
+    text: &[u8],
+    short: usize,
+    names: &mut [u8],
+    categories: &mut [u8],
+    definitions: &mut [u8],
+    ranges: &mut [u8],
+    references: &mut [u8],
+) -> bool {
     let a = lent(names, 0, short);
     let b = lent(categories, 1, short);
     let c = lent(definitions, 2, short);
     let d = lent(ranges, 3, short);
     let e = lent(references, 4, short);
-    let answer = char_def::parse(text, &mut names[..a], &mut categories[..b], &mut definitions[..c], &mut ranges[..d], &mut references[..e]);
+    let answer = char_def::parse(
+        text,
+        &mut names[..a],
+        &mut categories[..b],
+        &mut definitions[..c],
+        &mut ranges[..d],
+        &mut references[..e],
+    );
     let kind = replay::byte_at(list, at);
     let said = after_field(list, at);
     if !answer_agrees(list, kind, said, answer) {
@@ -277,10 +314,26 @@ fn tried(list: &[u8], at: usize, text: &[u8], short: usize) -> bool {
     let mut definitions = [FILL; DEFINITIONS];
     let mut ranges = [FILL; RANGES];
     let mut references = [FILL; REFERENCES];
-    agrees(list, at, text, short, &mut names, &mut categories, &mut definitions, &mut ranges, &mut references)
+    agrees(
+        list,
+        at,
+        text,
+        short,
+        &mut names,
+        &mut categories,
+        &mut definitions,
+        &mut ranges,
+        &mut references,
+    )
 }
 
-fn rooms_guarded(names: &[u8], categories: &[u8], definitions: &[u8], ranges: &[u8], references: &[u8]) -> bool {
+fn rooms_guarded(
+    names: &[u8],
+    categories: &[u8],
+    definitions: &[u8],
+    ranges: &[u8],
+    references: &[u8],
+) -> bool {
     if !is_guarded(names, GUARD) {
         return false;
     }
@@ -296,7 +349,13 @@ fn rooms_guarded(names: &[u8], categories: &[u8], definitions: &[u8], ranges: &[
     is_guarded(references, GUARD)
 }
 
-fn rooms_sum(names: &[u8], categories: &[u8], definitions: &[u8], ranges: &[u8], references: &[u8]) -> u64 {
+fn rooms_sum(
+    names: &[u8],
+    categories: &[u8],
+    definitions: &[u8],
+    ranges: &[u8],
+    references: &[u8],
+) -> u64 {
     let a = sum_over(SUM_START, names, GUARD);
     let b = sum_over(a, categories, GUARD);
     let c = sum_over(b, definitions, GUARD);
@@ -400,7 +459,10 @@ fn asked(t: Tally, list: &[u8], r: Reader, text: &[u8], number: u64) -> Tally {
 fn replay_all(list: &[u8]) -> Tally {
     let mut text = [0u8; TEXT_ROOM];
     let mut base = [0u8; BASE_ROOM];
-    let mut t = Tally { agreed: 0, differ: 0 };
+    let mut t = Tally {
+        agreed: 0,
+        differ: 0,
+    };
     let mut kept = 0;
     let mut at = 0;
     let mut number: u64 = 0;
