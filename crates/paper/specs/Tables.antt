@@ -1,3 +1,4 @@
 pub mod Lent
 pub mod Layout
 pub mod HandedIn
+pub mod Reader

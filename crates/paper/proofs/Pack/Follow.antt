@@ -18,7 +18,7 @@ use Rattle.paper.specs.CharDef.Reading.{Definition, Range, Reading, name
 use Rattle.paper.specs.Pack.Fields.{numberWidth, byteWidth, version, Field, field, bits, spell, bitsOf, bytesOf}
 use Rattle.paper.specs.Pack.Rules.{isBound}
 use Rattle.paper.specs.Pack.Broken.{Head, Due, versionField, categoriesField, linesField, rangesField, referencesField, nameLengthField, nameField, invokeField, groupField, lengthField, lowerField, upperField, countField, numberField, Next, due, end, width, refusal, Keeps, rangesLeft, numbersLeft, definitionsLeft, namesLeft, after, nothing-yet, one-more, Reaches, Fills, Broken, ends, breaks, adds-up-wrong, left-over}
-use Rattle.paper.specs.Computed.ReadPack.{Taken, short, taken, takeNumber, consTaken, afterByte, takeBytes, Outcome, gave, broke, Reader, afterOutcome, _▹_, give, settle, fieldOr, number, free, bytesField, demand, isPadding, padding, many, lengthRule, nameRule, readName, readNames, readDefinition, countRule, readRange, readRanges, upTo, readBody, readCounted, readFields, readAll, readPack}
+use Rattle.paper.specs.Computed.ReadPack.{Taken, short, taken, takeNumber, consTaken, afterByte, takeBytes, FieldStep, gave, broke, Reader, afterStep, _▹_, give, settle, fieldOr, number, free, bytesField, demand, isPadding, padding, many, lengthRule, nameRule, readName, readNames, readDefinition, countRule, readRange, readRanges, upTo, readBody, readCounted, readFields, readAll, readPack}
 use Rattle.paper.specs.Computed.Rules.{formed}
 use Rattle.paper.proofs.Apart.{short-taken, broke-gave}
 use Rattle.paper.proofs.Lists.Facts.{true→T, false→T}
@@ -103,11 +103,11 @@ module _ (p : List ℕ) where
         refuses = λ at s n m h e. refuses at s n m h (r at s) refl e;
       }
     where
-      passes : (at : ℕ) (s : List ℕ) (b : B) (to : ℕ) (t : List ℕ) → P at s → (o : Outcome A) → r at s ≡ o → afterOutcome o k ≡ gave b to t → R b to t
+      passes : (at : ℕ) (s : List ℕ) (b : B) (to : ℕ) (t : List ℕ) → P at s → (o : FieldStep A) → r at s ≡ o → afterStep o k ≡ gave b to t → R b to t
       passes at s b to t h (broke n m) d e = broke-gave e
       passes at s b to t h (gave a m u) d e = g a .passes m u b to t (f .passes at s a m u h d) e
 
-      refuses : (at : ℕ) (s : List ℕ) (n m : ℕ) → P at s → (o : Outcome A) → r at s ≡ o → afterOutcome o k ≡ broke n m → Broken p n m
+      refuses : (at : ℕ) (s : List ℕ) (n m : ℕ) → P at s → (o : FieldStep A) → r at s ≡ o → afterStep o k ≡ broke n m → Broken p n m
       refuses at s n m h (broke i j) d e = let (ei, ej) = broke-same i j n m e in f .refuses at s n m h (d ∙ ap₂ broke ei ej)
       refuses at s n m h (gave a j u) d e = g a .refuses j u n m (f .passes at s a j u h d) e
 
@@ -296,7 +296,7 @@ module _ (p : List ℕ) where
       }
     where
       passes : (at : ℕ) (s : List ℕ) (a : Unit {0}) (to : ℕ) (t : List ℕ) → Stands (end n total) at s → (b : Bool) → eqb n total ≡ b
-          → _≡_ {A = Outcome (Unit {0})} (cond b (gave tt at s) (broke packRule at)) (gave a to t) → Read to t
+          → _≡_ {A = FieldStep (Unit {0})} (cond b (gave tt at s) (broke packRule at)) (gave a to t) → Read to t
       passes at s a to t st true d e =
           let en : n ≡ total = eqb→eq n total (true→T (eqb n total) d) in
           let em : at ≡ to = cc in
@@ -305,7 +305,7 @@ module _ (p : List ℕ) where
       passes at s a to t st false d e = broke-gave e
 
       refuses : (at : ℕ) (s : List ℕ) (i j : ℕ) → Stands (end n total) at s → (b : Bool) → eqb n total ≡ b
-          → _≡_ {A = Outcome (Unit {0})} (cond b (gave tt at s) (broke packRule at)) (broke i j) → Broken p i j
+          → _≡_ {A = FieldStep (Unit {0})} (cond b (gave tt at s) (broke packRule at)) (broke i j) → Broken p i j
       refuses at s i j st true d e = broke-gave (sym e)
       refuses at s i j st false d e =
           let (ei, ej) = broke-same packRule at i j e in

@@ -19,7 +19,7 @@ use Rattle.paper.specs.Numbers.Bytes.{isByte, byteLimit}
 use Rattle.paper.specs.CharDef.Reading.{Definition, Range, Reading, nameBytes, references, Within, accepted}
 use Rattle.paper.specs.Pack.Fields.{version, versionWidth, categoriesWidth, linesWidth, rangesWidth, referencesWidth, nameLengthWidth, byteWidth, flagWidth, lengthWidth, boundWidth, countWidth, numberWidth, Field, flag, field, nameFields, definitionFields, rangeFields, packFields, bits, spell, packBits, inBytes, packBytes, bitsOf}
 use Rattle.paper.specs.Pack.Rules.{numbered, hasBytes, onceAfter, isBound, bounded, sized, PackRules}
-use Rattle.paper.specs.Computed.ReadPack.{Taken, short, taken, takeNumber, takeBytes, Outcome, gave, broke, Reader, afterOutcome, _▹_, give, settle, fieldOr, number, free, bytesField, demand, isPadding, padding, many, lengthRule, nameRule, readName, readNames, readDefinition, countRule, readRange, readRanges, upTo, readBody, readCounted, readFields, readAll, answer, readPack}
+use Rattle.paper.specs.Computed.ReadPack.{Taken, short, taken, takeNumber, takeBytes, FieldStep, gave, broke, Reader, afterStep, _▹_, give, settle, fieldOr, number, free, bytesField, demand, isPadding, padding, many, lengthRule, nameRule, readName, readNames, readDefinition, countRule, readRange, readRanges, upTo, readBody, readCounted, readFields, readAll, answer, readPack}
 use Rattle.paper.specs.Computed.Rules.{formed}
 use Rattle.paper.proofs.Apart.{refused-accepted, broke-gave}
 use Rattle.paper.proofs.Lists.Facts.{T→true, true→T}
@@ -38,7 +38,7 @@ reads-bind {p} k {a} {b} {f} {g} rp rk =
     record {
       reads = λ at s.
           let e : at + length f + length g ≡ at + length (f ++ g) = omega (arith, length-append f g) in
-          ap (λ l. afterOutcome (p at l) k) (append-assoc f g s) ∙ ap (λ o. afterOutcome o k) (rp .reads at (g ++ s))
+          ap (λ l. afterStep (p at l) k) (append-assoc f g s) ∙ ap (λ o. afterStep o k) (rp .reads at (g ++ s))
           ∙ rk .reads (at + length f) s ∙ ap (λ m. gave b m s) e;
     }
 
@@ -111,7 +111,7 @@ pub split : {A B : Type 0} (p : Reader A) (k : A → Reader B) (at : ℕ) (s : L
 unfolding _▹_
 split {A} {B} p k at s b to t h = go (p at s) refl h
   where
-    go : (o : Outcome A) → p at s ≡ o → afterOutcome o k ≡ gave b to t → Then p k at s b to t
+    go : (o : FieldStep A) → p at s ≡ o → afterStep o k ≡ gave b to t → Then p k at s b to t
     go (broke n m) e h = broke-gave h
     go (gave a m u) e h = record { value = a; place = m; rest = u; first = e; second = h }
 
@@ -667,8 +667,8 @@ fields-of r s k = let e : 0 + length (packBits r) ≡ length (packBits r) = omeg
 all-of : (r : Reading) (pad : List ℕ) → PackRules r → T (isPadding pad) → readAll 0 (packBits r ++ pad) ≡ gave r (length (packBits r)) []
 unfolding readAll _▹_ give
 all-of r pad k t =
-    ap (λ o. afterOutcome o (λ r. padding ▹ (λ end. give r))) (fields-of r pad k)
-    ∙ ap (λ o. afterOutcome o (λ end. give r)) (padding-of (length (packBits r)) pad t)
+    ap (λ o. afterStep o (λ r. padding ▹ (λ end. give r))) (fields-of r pad k)
+    ∙ ap (λ o. afterStep o (λ end. give r)) (padding-of (length (packBits r)) pad t)
 
 -- what is written is read back
 pub write-read : (r : Reading) → PackRules r → readPack (packBytes r) ≡ accepted r
@@ -692,7 +692,7 @@ all-read p r to t e =
     let f = fields-read 0 (bitsOf p) r (x .place) (x .rest) (unpack-bits p) (x .first ∙ ap (λ v. gave v (x .place) (x .rest)) er) in
     record { rules = f .rules; pad = x .rest; zero-bits = padding-is (x .place) (x .rest) (y .value) (y .place) (y .rest) (y .first); whole = f .whole }
 
-pub answered : (o : Outcome Reading) (r : Reading) → answer o ≡ accepted r → (to : ℕ) × (t : List ℕ) × (o ≡ gave r to t)
+pub answered : (o : FieldStep Reading) (r : Reading) → answer o ≡ accepted r → (to : ℕ) × (t : List ℕ) × (o ≡ gave r to t)
 answered (broke n at) r h = refused-accepted h
 answered (gave q to t) r h = let e : q ≡ r = cc in (to, t, ap (λ v. gave v to t) e)
 

@@ -17,7 +17,7 @@ use Rattle.paper.specs.Numbers.Bytes.{isByte}
 use Rattle.paper.specs.CharDef.Reading.{Reading, references, Answer, accepted, refused}
 use Rattle.paper.specs.Pack.Fields.{version, versionWidth, categoriesWidth, linesWidth, rangesWidth, referencesWidth, nameLengthWidth, byteWidth, flagWidth, lengthWidth, boundWidth, countWidth, numberWidth, bits, packBits, bitsOf}
 use Rattle.paper.specs.Pack.Rules.{PackRules}
-use Rattle.paper.specs.Computed.ReadPack.{Taken, short, taken, takeNumber, consTaken, afterByte, takeBytes, Outcome, gave, broke, Reader, afterOutcome, _▹_, give, settle, fieldOr, number, bytesField, demand, isPadding, padding, many, lengthRule, nameRule, readName, readNames, readDefinition, readRange, readRanges, upTo, readBody, readCounted, readFields, readAll, answer, readPack}
+use Rattle.paper.specs.Computed.ReadPack.{Taken, short, taken, takeNumber, consTaken, afterByte, takeBytes, FieldStep, gave, broke, Reader, afterStep, _▹_, give, settle, fieldOr, number, bytesField, demand, isPadding, padding, many, lengthRule, nameRule, readName, readNames, readDefinition, readRange, readRanges, upTo, readBody, readCounted, readFields, readAll, answer, readPack}
 use Rattle.paper.proofs.Apart.{refused-accepted, short-taken, broke-gave}
 use Rattle.paper.proofs.Lists.Facts.{T→false, false→T, all-left}
 use Rattle.paper.proofs.Pack.Bits.{unpack-bits, number-taken}
@@ -33,7 +33,7 @@ pub record Orderly {A : Type 0} (S : ℕ → Bool) (p : Reader A) : Type 0 where
   pub goes : (at : ℕ) (s : List ℕ) (a : A) (to : ℕ) (t : List ℕ) → p at s ≡ gave a to t → (u : List ℕ) → p at (s ++ u) ≡ gave a to (t ++ u)
   pub stops : (at : ℕ) (s : List ℕ) (n m : ℕ) → p at s ≡ broke n m → n ≢ packEnds → (u : List ℕ) → p at (s ++ u) ≡ broke n m
 
-pub broke-same : {A : Type 0} (i j n m : ℕ) → _≡_ {A = Outcome A} (broke i j) (broke n m) → (i ≡ n) × (j ≡ m)
+pub broke-same : {A : Type 0} (i j n m : ℕ) → _≡_ {A = FieldStep A} (broke i j) (broke n m) → (i ≡ n) × (j ≡ m)
 broke-same i j n m h = let e : i ≡ n = cc in let d : j ≡ m = cc in (e, d)
 
 orderly-bind : {A B : Type 0} (S : ℕ → Bool) (p : Reader A) (k : A → Reader B) → Orderly S p → ((a : A) → Orderly S (k a)) → Orderly S (p ▹ k)
@@ -46,27 +46,27 @@ orderly-bind {A} {B} S p k o f =
       stops = λ at s n m h d u. stops at s n m d u (p at s) refl h;
     }
   where
-    moves : (at : ℕ) (s : List ℕ) (b : B) (to : ℕ) (t : List ℕ) (g : Outcome A) → p at s ≡ g → afterOutcome g k ≡ gave b to t → (at ≤ to) × (to + length t ≡ at + length s)
+    moves : (at : ℕ) (s : List ℕ) (b : B) (to : ℕ) (t : List ℕ) (g : FieldStep A) → p at s ≡ g → afterStep g k ≡ gave b to t → (at ≤ to) × (to + length t ≡ at + length s)
     moves at s b to t (broke n m) e h = broke-gave h
     moves at s b to t (gave a m v) e h =
         let (i, x) = o .moves at s a m v e in
         let (j, y) = f a .moves m v b to t h in
         (omega arith, omega arith)
 
-    breaks : (at : ℕ) (s : List ℕ) (n m : ℕ) (g : Outcome A) → p at s ≡ g → afterOutcome g k ≡ broke n m → T (S n) × (at ≤ m) × (m ≤ at + length s)
+    breaks : (at : ℕ) (s : List ℕ) (n m : ℕ) (g : FieldStep A) → p at s ≡ g → afterStep g k ≡ broke n m → T (S n) × (at ≤ m) × (m ≤ at + length s)
     breaks at s n m (broke i j) e h = let (ei, ej) = broke-same i j n m h in o .breaks at s n m (e ∙ ap₂ broke ei ej)
     breaks at s n m (gave a j v) e h =
         let (i, x) = o .moves at s a j v e in
         let (t, y, z) = f a .breaks j v n m h in
         (t, omega arith, omega arith)
 
-    goes : (at : ℕ) (s : List ℕ) (b : B) (to : ℕ) (t u : List ℕ) (g : Outcome A) → p at s ≡ g → afterOutcome g k ≡ gave b to t → afterOutcome (p at (s ++ u)) k ≡ gave b to (t ++ u)
+    goes : (at : ℕ) (s : List ℕ) (b : B) (to : ℕ) (t u : List ℕ) (g : FieldStep A) → p at s ≡ g → afterStep g k ≡ gave b to t → afterStep (p at (s ++ u)) k ≡ gave b to (t ++ u)
     goes at s b to t u (broke n m) e h = broke-gave h
-    goes at s b to t u (gave a m v) e h = ap (λ g. afterOutcome g k) (o .goes at s a m v e u) ∙ f a .goes m v b to t h u
+    goes at s b to t u (gave a m v) e h = ap (λ g. afterStep g k) (o .goes at s a m v e u) ∙ f a .goes m v b to t h u
 
-    stops : (at : ℕ) (s : List ℕ) (n m : ℕ) → n ≢ packEnds → (u : List ℕ) (g : Outcome A) → p at s ≡ g → afterOutcome g k ≡ broke n m → afterOutcome (p at (s ++ u)) k ≡ broke n m
-    stops at s n m d u (broke i j) e h = let (ei, ej) = broke-same i j n m h in ap (λ g. afterOutcome g k) (o .stops at s n m (e ∙ ap₂ broke ei ej) d u)
-    stops at s n m d u (gave a j v) e h = ap (λ g. afterOutcome g k) (o .goes at s a j v e u) ∙ f a .stops j v n m h d u
+    stops : (at : ℕ) (s : List ℕ) (n m : ℕ) → n ≢ packEnds → (u : List ℕ) (g : FieldStep A) → p at s ≡ g → afterStep g k ≡ broke n m → afterStep (p at (s ++ u)) k ≡ broke n m
+    stops at s n m d u (broke i j) e h = let (ei, ej) = broke-same i j n m h in ap (λ g. afterStep g k) (o .stops at s n m (e ∙ ap₂ broke ei ej) d u)
+    stops at s n m d u (gave a j v) e h = ap (λ g. afterStep g k) (o .goes at s a j v e u) ∙ f a .stops j v n m h d u
 
 orderly-give : {A : Type 0} (S : ℕ → Bool) (a : A) → Orderly S (give a)
 unfolding give
@@ -327,7 +327,7 @@ padding-broke : (at : ℕ) (s : List ℕ) (n m : ℕ) → padding at s ≡ broke
 unfolding padding
 padding-broke at s n m h = go (isPadding s) refl h
   where
-    go : (b : Bool) → isPadding s ≡ b → _≡_ {A = Outcome (Unit {0})} (cond b (gave tt at []) (broke packLeftOver at)) (broke n m) → (isPadding s ≡ false) × (packLeftOver ≡ n) × (at ≡ m)
+    go : (b : Bool) → isPadding s ≡ b → _≡_ {A = FieldStep (Unit {0})} (cond b (gave tt at []) (broke packLeftOver at)) (broke n m) → (isPadding s ≡ false) × (packLeftOver ≡ n) × (at ≡ m)
     go true e h = broke-gave (sym h)
     go false e h = let en : packLeftOver ≡ n = cc in let em : at ≡ m = cc in (e, en, em)
 
@@ -340,26 +340,26 @@ all-stopped : (s : List ℕ) (n at : ℕ) → readAll 0 s ≡ broke n at → Sto
 unfolding readAll _▹_ give Stopped
 all-stopped s n at h = go (readFields 0 s) refl h
   where
-    pad : (r : Reading) (m : ℕ) (t : List ℕ) → readFields 0 s ≡ gave r m t → (o : Outcome (Unit {0})) → padding m t ≡ o → afterOutcome o (λ end. give r) ≡ broke n at → Stopped s n at
+    pad : (r : Reading) (m : ℕ) (t : List ℕ) → readFields 0 s ≡ gave r m t → (o : FieldStep (Unit {0})) → padding m t ≡ o → afterStep o (λ end. give r) ≡ broke n at → Stopped s n at
     pad r m t e (gave u to v) d h = broke-gave (sym h)
     pad r m t e (broke i j) d h =
         let (ei, ej) = broke-same i j n at h in
         let (c, en, em) = padding-broke m t i j d in
         inr (r, t, e ∙ ap (λ m. gave r m t) (em ∙ ej), c, en ∙ ei)
 
-    go : (o : Outcome Reading) → readFields 0 s ≡ o → afterOutcome o (λ r. padding ▹ (λ end. give r)) ≡ broke n at → Stopped s n at
+    go : (o : FieldStep Reading) → readFields 0 s ≡ o → afterStep o (λ r. padding ▹ (λ end. give r)) ≡ broke n at → Stopped s n at
     go (broke i j) e h = inl (e ∙ h)
     go (gave r m t) e h = pad r m t e (padding m t) refl h
 
 stopped-all : (s : List ℕ) (n at : ℕ) → Stopped s n at → readAll 0 s ≡ broke n at
 unfolding readAll _▹_ give Stopped padding
-stopped-all s n at (inl e) = ap (λ o. afterOutcome o (λ r. padding ▹ (λ end. give r))) e
+stopped-all s n at (inl e) = ap (λ o. afterStep o (λ r. padding ▹ (λ end. give r))) e
 stopped-all s n at (inr (r, t, e, c, en)) =
-    ap (λ o. afterOutcome o (λ r. padding ▹ (λ end. give r))) e
-    ∙ ap (λ b. afterOutcome (cond b (gave tt at []) (broke packLeftOver at)) (λ end. give r)) c
+    ap (λ o. afterStep o (λ r. padding ▹ (λ end. give r))) e
+    ∙ ap (λ b. afterStep (cond b (gave tt at []) (broke packLeftOver at)) (λ end. give r)) c
     ∙ ap (λ n. broke n at) en
 
-answer-refused : (o : Outcome Reading) (n at : ℕ) → answer o ≡ refused n at → o ≡ broke n at
+answer-refused : (o : FieldStep Reading) (n at : ℕ) → answer o ≡ refused n at → o ≡ broke n at
 answer-refused (gave r to t) n at h = refused-accepted (sym h)
 answer-refused (broke i j) n at h = let e : i ≡ n = cc in let d : j ≡ at = cc in cc
 
@@ -426,7 +426,7 @@ refused-18 p at bytes = (λ h. only (stopped-of p packVersion at h), λ (e, b, q
         which e (inl (y, z)) = absurd (omega arith)
         which e (inr (a, t, o, c, z)) = let (b, q, ep, d) = byte p bytes a t o c in (sym e, b, q, ep, d)
 
-    fields : (o : Outcome ℕ) → settle packVersion versionWidth 0 (eqb version) (takeNumber byteWidth 0 (bitsOf p)) ≡ o → afterOutcome o (λ v. readCounted) ≡ broke packVersion at → (at ≡ 0) × (b : ℕ) × (q : List ℕ) × (p ≡ b ∷ q) × (b ≢ version)
+    fields : (o : FieldStep ℕ) → settle packVersion versionWidth 0 (eqb version) (takeNumber byteWidth 0 (bitsOf p)) ≡ o → afterStep o (λ v. readCounted) ≡ broke packVersion at → (at ≡ 0) × (b : ℕ) × (q : List ℕ) × (p ≡ b ∷ q) × (b ≢ version)
     fields (broke i j) e h = let (ei, ej) = broke-same i j packVersion at h in field at (e ∙ ap₂ broke ei ej)
     fields (gave v m t) e h = absurd (orderly-counted .breaks m t packVersion at h .0)
 
@@ -439,7 +439,7 @@ refused-18 p at bytes = (λ h. only (stopped-of p packVersion at h), λ (e, b, q
         let t : T (all isByte (b ∷ q)) = subst (λ l. T (all isByte l)) ep bytes in
         let c : eqb version b ≡ false = T→false (eqb version b) (not-T (eqb version b) (λ u. d (sym (eqb→eq version b u)))) in
         ap readPack ep ∙ of-stopped (b ∷ q) packVersion 0
-        (inl (ap (λ o. afterOutcome (settle packVersion versionWidth 0 (eqb version) o) (λ v. readCounted)) (first b q t) ∙ ap (λ x. afterOutcome (cond x (gave b (0 + versionWidth) (bitsOf q)) (broke packVersion 0)) (λ v. readCounted)) c))
+        (inl (ap (λ o. afterStep (settle packVersion versionWidth 0 (eqb version) o) (λ v. readCounted)) (first b q t) ∙ ap (λ x. afterStep (cond x (gave b (0 + versionWidth) (bitsOf q)) (broke packVersion 0)) (λ v. readCounted)) c))
         ∙ ap (refused packVersion) (sym e)
 
 -- 21 exactly when the fields of a reading stand there, keep the rules, and no padding stands behind them

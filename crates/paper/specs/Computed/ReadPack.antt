@@ -55,27 +55,27 @@ takeBytes (suc n) s = afterByte (takeNumber byteWidth 0 s) (λ t. takeBytes n t)
 -- ---- readers
 
 -- a value with the place behind it and the bits left, or the refusal's number and place
-pub data Outcome (A : Type 0) : Type 0 where
-  gave : A → ℕ → List ℕ → Outcome A
-  broke : ℕ → ℕ → Outcome A
+pub data FieldStep (A : Type 0) : Type 0 where
+  gave : A → ℕ → List ℕ → FieldStep A
+  broke : ℕ → ℕ → FieldStep A
 
 -- from a place and the bits that stand there
 abbrev pub Reader : Type 0 → Type 0
-Reader A = ℕ → List ℕ → Outcome A
+Reader A = ℕ → List ℕ → FieldStep A
 
-unfoldable pub afterOutcome : {A B : Type 0} → Outcome A → (A → Reader B) → Outcome B
-afterOutcome (broke n at) go = broke n at
-afterOutcome (gave a at s) go = go a at s
+unfoldable pub afterStep : {A B : Type 0} → FieldStep A → (A → Reader B) → FieldStep B
+afterStep (broke n at) go = broke n at
+afterStep (gave a at s) go = go a at s
 
 -- one reader, and what follows it from its value
 unfoldable pub _▹_ : {A B : Type 0} → Reader A → (A → Reader B) → Reader B
-unfolding afterOutcome
-_▹_ p go at s = afterOutcome (p at s) go
+unfolding afterStep
+_▹_ p go at s = afterStep (p at s) go
 
 unfoldable pub give : {A : Type 0} → A → Reader A
 give a at s = gave a at s
 
-unfoldable pub settle : {A : Type 0} → ℕ → ℕ → ℕ → (A → Bool) → Taken A → Outcome A
+unfoldable pub settle : {A : Type 0} → ℕ → ℕ → ℕ → (A → Bool) → Taken A → FieldStep A
 settle n w at ok short = broke packEnds at
 settle n w at ok (taken a s) = cond (ok a) (gave a (at + w) s) (broke n at)
 
@@ -191,7 +191,7 @@ readAll =
     padding ▹ λ end.
     give r
 
-abbrev pub answer : Outcome Reading → Answer
+abbrev pub answer : FieldStep Reading → Answer
 answer (gave r at s) = accepted r
 answer (broke n at) = refused n at
 
