@@ -1,0 +1,3 @@
+pub mod Window
+pub mod Copy
+pub mod Bridge
