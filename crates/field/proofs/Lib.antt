@@ -1,3 +1,4 @@
 pub mod Window
 pub mod Copy
 pub mod Bridge
+pub mod Promise

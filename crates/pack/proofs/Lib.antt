@@ -1,0 +1,5 @@
+pub mod Steps
+pub mod Counting
+pub mod Defined
+pub mod Fill
+pub mod Ranging
