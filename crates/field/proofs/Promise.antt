@@ -7,17 +7,17 @@ use mathlib.Core.Path.{_≡_, refl, sym, ap, _∙_}
 use mathlib.Core.Bool.{Bool, true, false, cond, _&&_}
 use mathlib.Core.List.{List}
 use lib.Dec.{T, leb}
-use lib.ListN.{drop}
+use lib.ListN.{length, drop}
 use borrow.Author.Tests.{leb-true}
 use Rattle.paper.specs.Refusals.{packEnds}
-use Rattle.paper.specs.Pack.Fields.{bitsOf}
+use Rattle.paper.specs.Pack.Fields.{byteWidth, bitsOf}
 use Rattle.paper.specs.Lists.{all}
-use Rattle.paper.specs.Computed.ReadPack.{FieldStep, gave, broke, takeNumber, taken, settle, fieldOr, number, free}
+use Rattle.paper.specs.Computed.ReadPack.{FieldStep, gave, broke, takeNumber, taken, settle, fieldOr, number, free, takeBytes, bytesField}
 use Rattle.paper.proofs.Apart.{broke-gave}
-use Rattle.paper.proofs.Pack.Bits.{unpack-bits, taken-number}
+use Rattle.paper.proofs.Pack.Bits.{unpack-bits, taken-number, taken-bytes}
 use Rattle.paper.proofs.Pack.Verdict.{settle-got}
 use Rattle.paper.proofs.Tables.Laws.{all-drop}
-use Rattle.field.specs.Cursor.{widest, lastPlace, rest, fieldAt}
+use Rattle.field.specs.Cursor.{widest, lastPlace, rest, fieldAt, anyBytes, bytesFieldAt}
 
 -- a field that was read, by its number
 module _ (p : List ℕ) (at w v to : ℕ) (t : List ℕ) (e : gave v to t ≡ fieldAt p at w) where
@@ -36,3 +36,23 @@ module _ (p : List ℕ) (at w v to : ℕ) (t : List ℕ) (e : gave v to t ≡ fi
   pub field-small : v < 2 ^ w
   unfolding rest
   field-small = taken-number w (rest p at) v t (all-drop _ at (bitsOf p) (unpack-bits p)) field-took .0
+
+-- a run that was read, by its bytes
+module _ (p : List ℕ) (at n : ℕ) (bs : List ℕ) (to : ℕ) (t : List ℕ) (e : bytesFieldAt p at n ≡ gave bs to t) where
+  run-number : bytesField n anyBytes at (rest p at) ≡ gave bs to t
+  unfolding bytesFieldAt
+  run-number = go (leb 1 n && leb (at + byteWidth * n) lastPlace) e
+    where
+      go : (b : Bool) → cond b (bytesField n anyBytes at (rest p at)) (broke packEnds at) ≡ gave bs to t → bytesField n anyBytes at (rest p at) ≡ gave bs to t
+      go true h = h
+      go false h = broke-gave h
+
+  pub run-on : to ≡ at + byteWidth * n
+  unfolding bytesField
+  run-on = let (o, k, i) = settle-got 20 (byteWidth * n) at anyBytes (takeBytes n (rest p at)) bs to t run-number in sym i
+
+  pub run-size : length bs ≡ n
+  unfolding bytesField rest
+  run-size =
+      let took = settle-got 20 (byteWidth * n) at anyBytes (takeBytes n (rest p at)) bs to t run-number .0 in
+      taken-bytes n (rest p at) bs t (all-drop _ at (bitsOf p) (unpack-bits p)) took .size

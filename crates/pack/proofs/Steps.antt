@@ -1,6 +1,6 @@
 -- The paper's readers step by step, from what the cursor found: a field with its rule, and one reader behind another.
 -- Assumes nothing.
-use Prim.Native.Nat.{ℕ, _+_, _≤_, _<_}
+use Prim.Native.Nat.{ℕ, _+_, _*_, _≤_, _<_}
 use native.Mathlib.Omega.{arith}
 use mathlib.Core.Path.{_≡_, refl, sym, ap, ap₂, _∙_}
 use mathlib.Core.Bool.{Bool, true, false, not, cond, _&&_}
@@ -8,11 +8,11 @@ use mathlib.Core.List.{List}
 use lib.Dec.{leb}
 use borrow.Author.Tests.{le-leb, lt-leb}
 use Rattle.paper.specs.Refusals.{packEnds, packRule}
-use Rattle.paper.specs.Pack.Rules.{isBound}
-use Rattle.paper.specs.Computed.ReadPack.{Taken, short, taken, takeNumber, FieldStep, gave, broke, Reader, afterStep, _▹_, settle, fieldOr, number, free}
+use Rattle.paper.specs.Pack.Fields.{byteWidth}
+use Rattle.paper.specs.Computed.ReadPack.{Taken, short, taken, takeNumber, FieldStep, gave, broke, Reader, afterStep, _▹_, settle, fieldOr, number, free, takeBytes, bytesField}
 use Rattle.paper.proofs.Apart.{true-false}
 use Rattle.paper.proofs.Pack.Verdict.{settle-got}
-use Rattle.field.specs.Cursor.{widest, lastPlace, rest, fieldAt}
+use Rattle.field.specs.Cursor.{widest, lastPlace, rest, fieldAt, anyBytes, bytesFieldAt}
 use Rattle.pack.specs.Parts.{maxPlace}
 
 -- ---- one reader and what follows
@@ -28,17 +28,14 @@ stop f go e = ap (λ o. afterStep o go) e
 
 -- ---- a field with its rule
 
-judge : ℕ → (ℕ → Bool) → ℕ → FieldStep ℕ → FieldStep ℕ
+judge : {A : Type 0} → ℕ → (A → Bool) → ℕ → FieldStep A → FieldStep A
 judge n ok at (gave v to t) = cond (ok v) (gave v to t) (broke n at)
 judge n ok at (broke m q) = broke m q
 
-judged : (n w at : ℕ) (ok : ℕ → Bool) (s : List ℕ) → fieldOr n w ok at s ≡ judge n ok at (number w free at s)
-unfolding fieldOr settle judge
-judged n w at ok s = go (takeNumber w 0 s)
-  where
-    go : (o : Taken ℕ) → settle n w at ok o ≡ judge n ok at (settle packRule w at free o)
-    go short = refl
-    go (taken v t) = refl
+judged : {A : Type 0} (n w at : ℕ) (ok : A → Bool) (o : Taken A) → settle n w at ok o ≡ judge n ok at (settle packRule w at (λ v. true) o)
+unfolding settle judge
+judged n w at ok short = refl
+judged n w at ok (taken v t) = refl
 
 module _ (p : List ℕ) (at w : ℕ) (near : at ≤ maxPlace) (some : 1 ≤ w) (narrow : w ≤ widest) where
   free-field : fieldAt p at w ≡ number w free at (rest p at)
@@ -49,7 +46,8 @@ module _ (p : List ℕ) (at w : ℕ) (near : at ≤ maxPlace) (some : 1 ≤ w) (
 
   module _ (n : ℕ) (ok : ℕ → Bool) where
     as-judged : fieldOr n w ok at (rest p at) ≡ judge n ok at (fieldAt p at w)
-    as-judged = judged n w at ok (rest p at) ∙ ap (judge n ok at) (sym free-field)
+    unfolding fieldOr
+    as-judged = judged n w at ok (takeNumber w 0 (rest p at)) ∙ ap (judge n ok at) (sym free-field)
 
     pub cut : {m q : ℕ} → broke m q ≡ fieldAt p at w → broke m q ≡ fieldOr n w ok at (rest p at)
     unfolding judge
@@ -62,6 +60,32 @@ module _ (p : List ℕ) (at w : ℕ) (near : at ≤ maxPlace) (some : 1 ≤ w) (
     pub breaks : {v to : ℕ} {t : List ℕ} → gave v to t ≡ fieldAt p at w → ok v ≡ false → broke n at ≡ fieldOr n w ok at (rest p at)
     unfolding judge
     breaks {v} {to} {t} e k = sym (as-judged ∙ ap (judge n ok at) (sym e) ∙ ap (λ b. cond b (gave v to t) (broke n at)) k)
+
+-- so many bytes, one field
+
+module _ (p : List ℕ) (at len : ℕ) (near : at + byteWidth * len ≤ maxPlace) (some : 1 ≤ len) (ok : List ℕ → Bool) where
+  any-bytes : bytesFieldAt p at len ≡ bytesField len anyBytes at (rest p at)
+  unfolding bytesFieldAt
+  any-bytes =
+      let h : at + byteWidth * len ≤ lastPlace = omega arith in
+      rw (le-leb 1 len some, le-leb (at + byteWidth * len) lastPlace h)
+
+  bytes-judged : bytesField len ok at (rest p at) ≡ judge packRule ok at (bytesFieldAt p at len)
+  unfolding bytesField
+  bytes-judged = judged packRule (byteWidth * len) at ok (takeBytes len (rest p at)) ∙ ap (judge packRule ok at) (sym any-bytes)
+
+  pub bytes-cut : {m q : ℕ} → bytesFieldAt p at len ≡ broke m q → bytesField len ok at (rest p at) ≡ broke m q
+  unfolding judge
+  bytes-cut e = bytes-judged ∙ ap (judge packRule ok at) e
+
+  module _ {bs : List ℕ} {to : ℕ} {t : List ℕ} (e : bytesFieldAt p at len ≡ gave bs to t) where
+    pub bytes-keep : ok bs ≡ true → bytesField len ok at (rest p at) ≡ gave bs to t
+    unfolding judge
+    bytes-keep k = bytes-judged ∙ ap (judge packRule ok at) e ∙ ap (λ b. cond b (gave bs to t) (broke packRule at)) k
+
+    pub bytes-break : ok bs ≡ false → bytesField len ok at (rest p at) ≡ broke packRule at
+    unfolding judge
+    bytes-break k = bytes-judged ∙ ap (judge packRule ok at) e ∙ ap (λ b. cond b (gave bs to t) (broke packRule at)) k
 
 -- where a field that was read ends, and that it keeps its rule
 pub record Behind (w at : ℕ) (ok : ℕ → Bool) (v to : ℕ) : Type 0 where

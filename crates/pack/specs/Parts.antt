@@ -3,6 +3,7 @@
 -- Assumes nothing.
 use Prim.Native.Nat.{ℕ, _+_, _*_, _≤_, _<_}
 use mathlib.Core.Path.{_≡_}
+use mathlib.Core.Bool.{Bool}
 use mathlib.Core.List.{List, [], _∷_, _++_, map}
 use lib.Dec.{ltb}
 use lib.ListN.{length, getD}
@@ -12,7 +13,7 @@ use Rattle.paper.specs.Numbers.Bytes.{le}
 use Rattle.paper.specs.CharDef.Reading.{Range, Reading, nameBytes, references}
 use Rattle.paper.specs.CharDef.Reading as reading
 use Rattle.paper.specs.Pack.Fields.{byteWidth, categoriesWidth, linesWidth, rangesWidth, referencesWidth, nameLengthWidth, numberWidth, definitionWidth, rangeWidth}
-use Rattle.paper.specs.Computed.ReadPack.{FieldStep, gave, broke, Reader, afterStep, _▹_, give, number, upTo, many, readDefinition, readBody}
+use Rattle.paper.specs.Computed.ReadPack.{FieldStep, gave, broke, Reader, afterStep, _▹_, give, number, upTo, many, bytesField, nameRule, readName, readDefinition, readBody}
 use Rattle.paper.specs.Tables.Layout.{slotBytes, nameSlotBytes, nameSlots, rangeTable, referenceTable, nameSlotSize, rangeSlotSize, referenceSize}
 use Rattle.paper.specs.Tables.Lent.{patch, padded}
 use Rattle.field.specs.Cursor.{rest}
@@ -169,6 +170,10 @@ pub record Naming (s : Store) (n used : ℕ) : Type 0 where
   pub before : List (List ℕ)
   pub held : Named before s n used
 
+-- the last name keeps the rule of a name behind those before it
+abbrev pub KeptIs : Store → (i start len : ℕ) → Bool → Type 0
+KeptIs s i start len r = (ns : List (List ℕ)) (name : List ℕ) → Named (ns ++ (name ∷ [])) s (i + 1) (start + len) → length name ≡ len → r ≡ nameRule ns name
+
 -- one name more, whose length has `width` bits before it
 pub record NameIn (p : List ℕ) (at width : ℕ) (g : FieldStep (List ℕ)) (ns : List (List ℕ)) (s : Store) (n used : ℕ) (len next : ℕ) : Type 0 where
   pub name : List ℕ
@@ -180,6 +185,13 @@ pub record NameIn (p : List ℕ) (at width : ℕ) (g : FieldStep (List ℕ)) (ns
 abbrev pub NameIs : List ℕ → (at width : ℕ) → FieldStep (List ℕ) → List (List ℕ) → Store → (n used : ℕ) → CountRead → Type 0
 NameIs p at width g ns s n used (count.Read len c) = NameIn p at width g ns s n used len (c .at)
 NameIs p at width g ns s n used (count.Refused r) = g ≡ broke (r .number) (r .place)
+
+-- behind whatever names the store holds: the bytes of so many, or a length and its bytes
+abbrev pub TakesName : List ℕ → (at len : ℕ) (s₀ s₁ : Store) (n used : ℕ) → CountRead → Type 0
+TakesName p at len s₀ s₁ n used r = (ns : List (List ℕ)) → Named ns s₀ n used → NameIs p at 0 (bytesField len (nameRule ns) at (rest p at)) ns s₁ n used r
+
+abbrev pub ReadsName : List ℕ → (at : ℕ) (s₀ s₁ : Store) (n used : ℕ) → CountRead → Type 0
+ReadsName p at s₀ s₁ n used r = (ns : List (List ℕ)) → Named ns s₀ n used → NameIs p at nameLengthWidth (readName used ns at (rest p at)) ns s₁ n used r
 
 pub record NamesIn (p : List ℕ) (at : ℕ) (g : FieldStep (List (List ℕ))) (names categories : List ℕ) (n used next : ℕ) : Type 0 where
   pub all : List (List ℕ)
