@@ -29,9 +29,13 @@ module _ (p : List ℕ) (at w v to : ℕ) (t : List ℕ) (e : gave v to t ≡ fi
       go true h = sym h
       go false h = broke-gave (sym h)
 
-  field-took : takeNumber w 0 (rest p at) ≡ taken v t
+  pub field-took : takeNumber w 0 (rest p at) ≡ taken v t
   unfolding fieldOr
   field-took = settle-got 20 w at free (takeNumber w 0 (rest p at)) v to t field-number .0
+
+  pub field-on : to ≡ at + w
+  unfolding fieldOr
+  field-on = let (o, k, i) = settle-got 20 w at free (takeNumber w 0 (rest p at)) v to t field-number in sym i
 
   pub field-small : v < 2 ^ w
   unfolding rest

@@ -5,3 +5,5 @@ pub mod Fill
 pub mod Ranging
 pub mod Names
 pub mod Naming
+pub mod Padding
+pub mod Body

@@ -50,11 +50,14 @@ ghost use Rattle.paper.specs.Sizes.{maxCategories, maxNameBytes, maxCategoryLin
 ghost use Rattle.paper.specs.Numbers.Bytes.{le};
 ghost use Rattle.paper.specs.Pack.Fields.{flag, byteWidth, nameLengthWidth, boundWidth, numberWidth, definitionWidth, rangeWidth, headWidth};
 ghost use Rattle.paper.specs.Pack.Rules.{isBound};
-ghost use Rattle.paper.specs.Computed.ReadPack.{number, countRule, isPadding, many, readDefinition, readRange, readRanges, readNames, readFields, readCounted};
-ghost use Rattle.paper.specs.Tables.Layout.{definitionBytes, slotBytes, nameSlotBytes, definitionSize, rangeSlotSize, referenceSize, nameSlotSize};
-ghost use Rattle.paper.specs.Tables.Lent.{patch};
+ghost use Rattle.paper.specs.Computed.ReadPack.{number, countRule, isPadding, many, readDefinition, readRange, readRanges, readNames, readFields, readCounted, readPack};
+ghost use Rattle.paper.specs.Tables.Layout.{inRoom, definitionBytes, slotBytes, nameSlotBytes, definitionSize, rangeSlotSize, referenceSize, nameSlotSize};
+ghost use Rattle.paper.specs.Tables.Lent.{patch, padded};
+ghost use Rattle.paper.specs.Tables.Reader.{Reads};
 ghost use Rattle.hold.specs.Mark.{mark};
 ghost use Rattle.field.specs.Cursor.{widest, rest, said};
+ghost use Rattle.room.specs.Sized.{Sized, noTables, ReadInto};
+ghost use Rattle.pack.specs.Whole.{HeadFits, tailWidth, bodyWidth, TailIs, BodyIs, Fill};
 ghost use Rattle.pack.specs.Parts.{maxPlace, DefinitionIs, Filled, HeadIs, lastWidth, countsWidth, meant, readLast, BoundsAre, RangeIs, Ranged, RangesAre, Stored, Naming, KeptIs, TakesName, ReadsName, NamesAre};
 
 // "Head: version": the one that is read.
@@ -577,4 +580,199 @@ fn read_names(
         }
     }
     CountRead::Read(used, BitCursor { at })
+}
+
+// ---- the whole
+
+// Definitions and ranges, whose references add up to the head's total.
+fn read_tail(
+    pack: &[u8],
+    from: BitCursor,
+    head: Head,
+    definitions: &mut [u8],
+    ranges: &mut [u8],
+    references: &mut [u8],
+) -> PartRead
+    requires { ⌜ from .at + tailWidth head ≤ maxPlace ⌝ }
+    requires { ⌜ HeadFits head ⌝ }
+    requires { ⌜ now definitions ≡ padded (definitionSize * maxCategoryLines) [] ⌝ }
+    requires { ⌜ Ranged [] (record { ranges = now ranges; references = now references }) ⌝ }
+    ensures { λ r. ⌜ TailIs (now (pack .entry)) (from .at) head (now (definitions .exit)) (record { ranges = now (ranges .exit); references = now (references .exit) }) r ⌝ }
+{
+    match read_definitions(pack, from, head.lines, definitions) {
+        PartRead::Refused(r) => PartRead::Refused(r),
+        PartRead::Read(behind) => {
+            match read_ranges(
+                pack,
+                behind,
+                head.ranges,
+                head.categories,
+                head.references,
+                ranges,
+                references,
+            ) {
+                CountRead::Refused(r) => PartRead::Refused(r),
+                CountRead::Read(used, next) => {
+                    if used != head.references {
+                        return PartRead::Refused(Refusal {
+                            number: PACK_RULE,
+                            place: next.at,
+                        });
+                    }
+                    PartRead::Read(next)
+                }
+            }
+        }
+    }
+}
+
+// The body that the head announces, into tables of the sizes that hold zero; how many bytes the names have.
+fn read_body(
+    pack: &[u8],
+    from: BitCursor,
+    head: Head,
+    names: &mut [u8],
+    categories: &mut [u8],
+    definitions: &mut [u8],
+    ranges: &mut [u8],
+    references: &mut [u8],
+) -> CountRead
+    requires { ⌜ from .at + bodyWidth head ≤ maxPlace ⌝ }
+    requires { ⌜ HeadFits head ⌝ }
+    requires { ⌜ record { names = now names; categories = now categories; definitions = now definitions; ranges = now ranges; references = now references } ≡ inRoom noTables ⌝ }
+    ensures { λ r. ⌜ BodyIs (now (pack .entry)) (from .at) head (record { names = now (names .exit); categories = now (categories .exit); definitions = now (definitions .exit); ranges = now (ranges .exit); references = now (references .exit) }) r ⌝ }
+{
+    match read_names(pack, from, head.categories, names, categories) {
+        CountRead::Refused(r) => CountRead::Refused(r),
+        CountRead::Read(bytes, behind) => {
+            match read_tail(pack, behind, head, definitions, ranges, references) {
+                PartRead::Refused(r) => CountRead::Refused(r),
+                PartRead::Read(next) => CountRead::Read(bytes, next),
+            }
+        }
+    }
+}
+
+// Zero bits fill the last byte, and nothing stands behind them.
+fn is_padding(pack: &[u8], from: BitCursor) -> bool
+    requires { ⌜ from .at ≤ maxPlace ⌝ }
+    ensures { λ r. ⌜ r ≡ isPadding (rest (now (pack .entry)) (from .at)) ⌝ }
+{
+    let whole = from.at / BYTE_WIDTH;
+    let over = from.at % BYTE_WIDTH;
+    if pack.len() <= whole {
+        return true;
+    }
+    if over == 0 {
+        return false;
+    }
+    if whole + 1 < pack.len() {
+        return false;
+    }
+    match from.field(pack, BYTE_WIDTH - over) {
+        Field::Refused(_) => false,
+        Field::Value(v, _) => v == 0,
+    }
+}
+
+// The pack read into tables of the sizes that hold zero.
+fn fill_tables(
+    pack: &[u8],
+    names: &mut [u8],
+    categories: &mut [u8],
+    definitions: &mut [u8],
+    ranges: &mut [u8],
+    references: &mut [u8],
+) -> Outcome
+    requires { ⌜ record { names = now names; categories = now categories; definitions = now definitions; ranges = now ranges; references = now references } ≡ inRoom noTables ⌝ }
+    ensures { λ r. ⌜ Fill (readPack (now (pack .entry))) (record { names = now (names .exit); categories = now (categories .exit); definitions = now (definitions .exit); ranges = now (ranges .exit); references = now (references .exit) }) r ⌝ }
+{
+    match read_head(pack, BitCursor { at: 0 }) {
+        HeadRead::Refused(r) => Outcome::Refused(r),
+        HeadRead::Read(head, behind) => {
+            match read_body(
+                pack,
+                behind,
+                head,
+                names,
+                categories,
+                definitions,
+                ranges,
+                references,
+            ) {
+                CountRead::Refused(r) => Outcome::Refused(r),
+                CountRead::Read(bytes, end) => {
+                    if !is_padding(pack, end) {
+                        return Outcome::Refused(Refusal {
+                            number: PACK_LEFT_OVER,
+                            place: end.at,
+                        });
+                    }
+                    Outcome::Accepted(Counts {
+                        categories: head.categories,
+                        definitions: head.lines,
+                        ranges: head.ranges,
+                        references: head.references,
+                        bytes,
+                    })
+                }
+            }
+        }
+    }
+}
+
+// The pack read into tables of the sizes: the reading's tables, or zero where the pack is refused.
+fn read_into(
+    pack: &[u8],
+    names: &mut [u8],
+    categories: &mut [u8],
+    definitions: &mut [u8],
+    ranges: &mut [u8],
+    references: &mut [u8],
+) -> Outcome
+    requires { ⌜ Sized (record { names = now names; categories = now categories; definitions = now definitions; ranges = now ranges; references = now references }) ⌝ }
+    ensures { λ r. ⌜ ReadInto (readPack (now (pack .entry))) (record { names = now (names .exit); categories = now (categories .exit); definitions = now (definitions .exit); ranges = now (ranges .exit); references = now (references .exit) }) r ⌝ }
+{
+    room::zero_all(names, categories, definitions, ranges, references);
+    match fill_tables(pack, names, categories, definitions, ranges, references) {
+        Outcome::Accepted(counts) => Outcome::Accepted(counts),
+        Outcome::Refused(refusal) => {
+            room::zero_all(names, categories, definitions, ranges, references);
+            Outcome::Refused(refusal)
+        }
+    }
+}
+
+// Reads a pack into lent tables: 1, then 18 to 21 by the first broken field in reading order. Nothing is written for 1; 18 to 21 leave zero
+// up to the sizes; past the sizes nothing is touched.
+pub fn read_pack(
+    pack: &[u8],
+    names: &mut [u8],
+    categories: &mut [u8],
+    definitions: &mut [u8],
+    ranges: &mut [u8],
+    references: &mut [u8],
+) -> Outcome
+    ensures { λ r. ⌜ Reads (readPack (now (pack .entry))) (record { names = now (names .entry); categories = now (categories .entry); definitions = now (definitions .entry); ranges = now (ranges .entry); references = now (references .entry) }) (record { names = now (names .exit); categories = now (categories .exit); definitions = now (definitions .exit); ranges = now (ranges .exit); references = now (references .exit) }) r ⌝ }
+{
+    if !room::has_room(
+        names.len(),
+        categories.len(),
+        definitions.len(),
+        ranges.len(),
+        references.len(),
+    ) {
+        return Outcome::Refused(Refusal {
+            number: ROOM_SHORT,
+            place: 0,
+        });
+    }
+    read_into(
+        pack,
+        &mut names[..MAX_NAME_BYTES],
+        &mut categories[..CATEGORIES_SIZE],
+        &mut definitions[..DEFINITIONS_SIZE],
+        &mut ranges[..RANGES_SIZE],
+        &mut references[..REFERENCES_SIZE],
+    )
 }
