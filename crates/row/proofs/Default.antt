@@ -5,14 +5,13 @@ use native.Mathlib.Omega.{arith}
 use mathlib.Core.Path.{_≡_, refl, sym, ap, _∙_, subst}
 use mathlib.Core.Bool.{Bool, true, false, cond, _||_}
 use mathlib.Core.List.{List, [], _∷_, map}
-use mathlib.Core.Option.{Option, none, some}
+use mathlib.Core.Option.{none, some}
 use lib.Dec.{T, ltb}
 use lib.ListN.{length, length-map}
 use Rattle.paper.specs.Refusals.{tablesApart}
 use Rattle.paper.specs.Lists.{any, positionOf, same}
-use Rattle.paper.specs.CharDef.Reading.{Reading}
 use Rattle.paper.specs.Rows.Covering.{default, defaults}
-use Rattle.paper.specs.Rows.Lookup.{Looked, gives, refuses}
+use Rattle.paper.specs.Rows.Lookup.{gives, refuses}
 use Rattle.paper.specs.Rows.Numbers.{nameSlotsOf, nameIn, pastStore, lowestNamed, findName}
 use Rattle.paper.specs.Tables.Layout.{Tables, pieces, nameSlotOf, nameSlotSize}
 use Rattle.paper.specs.Computed.HandedIn.{decoded, holds, handedIn}
