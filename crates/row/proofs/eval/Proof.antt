@@ -34,13 +34,13 @@ loop-less : tie.Need-loop-less Inv-loop μ-loop
 loop-less c = omega arith
 
 loop-again : tie.Need-loop-again Inv-loop μ-loop
-loop-again c = search-up _ _ _ _ _ (c .before .before .before .loop .inv) (omega arith) (omega arith) (c .if1 .taken)
+loop-again c = search-up _ _ _ _ _ (c .before .before .before .loop .inv) (omega arith) (omega arith) (omega arith)
 
 loop-less-2 : tie.Need-loop-less-2 Inv-loop μ-loop
 loop-less-2 c = omega arith
 
 loop-again-2 : tie.Need-loop-again-2 Inv-loop μ-loop
-loop-again-2 c = search-down _ _ _ _ _ (c .before .before .before .loop .inv) (omega arith) (omega arith) (c .if1 .left)
+loop-again-2 c = search-down _ _ _ _ _ (c .before .before .before .loop .inv) (omega arith) (omega arith) (omega arith)
 
 returns : tie.Need-returns Inv-loop μ-loop
 returns c = search-done _ _ _ _ (c .before .loop .inv) (omega arith)
