@@ -1,0 +1,3 @@
+-- The mathematics of the writer's proofs.
+pub mod Bits
+pub mod Writing

@@ -1,0 +1,2 @@
+-- What the writer promises.
+pub mod Writer
