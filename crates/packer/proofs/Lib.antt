@@ -1,3 +1,4 @@
 -- The mathematics of the writer's proofs.
 pub mod Bits
 pub mod Writing
+pub mod Entries

@@ -170,3 +170,18 @@ emits-all l₀ w width value held {l} {at} {left} h e few =
       moved = omega arith;
       same-length = s;
     }
+
+-- ---- fields of a known width
+
+pub puts-nothing : (l : List ℕ) (w : BitWriter) (n : ℕ) → Room l w n → Puts l w [] 0 l w
+puts-nothing l w n h = let r = h .room in record { writes = writes-nothing l w (omega arith); few = h .few; moved = omega arith; same-length = refl }
+
+pub puts-both : {a b c : List ℕ} {w v r : BitWriter} {fs gs : List Field} {m n : ℕ} → Puts a w fs m b v → Puts b v gs n c r → Puts a w (fs ++ gs) (m + n) c r
+puts-both x y =
+    let p = x .moved in
+    let q = y .moved in
+    record { writes = writes-both (x .writes) (y .writes); few = y .few; moved = omega arith; same-length = y .same-length ∙ x .same-length }
+
+-- the same fields, said otherwise
+pub puts-are : {a b : List ℕ} {w r : BitWriter} {fs gs : List Field} {m n : ℕ} → Puts a w fs m b r → fs ≡ gs → m ≡ n → Puts a w gs n b r
+puts-are x e f = rw (e, f) at x

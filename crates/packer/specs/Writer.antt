@@ -2,12 +2,15 @@
 -- Assumes nothing.
 use Prim.Native.Nat.{ℕ, _+_, _*_, _≤_, _<_}
 use mathlib.Core.Path.{_≡_}
-use mathlib.Core.List.{List, _++_}
+use mathlib.Core.List.{List, [], _∷_, _++_, map}
 use lib.Dec.{T}
 use lib.ListN.{length, take, drop}
 use Rattle.paper.specs.Lists.{all}
 use Rattle.paper.specs.Numbers.Bytes.{isByte}
-use Rattle.paper.specs.Pack.Fields.{byteWidth, Field, bits, spell, bitsOf}
+use Rattle.paper.specs.Pack.Fields.{version, versionWidth, categoriesWidth, linesWidth, rangesWidth, referencesWidth, byteWidth, Field, field, bits, spell, bitsOf}
+use Rattle.paper.specs.Tables.Layout.{nameSlotSize, rangeSlotSize, referenceSize, nameSlotOf, slotOf, pieces}
+use Rattle.paper.specs.Tables.Lent.{num}
+use Rattle.paper.specs.declared.Counts.{Counts}
 use Rattle.packer.specs.declared.BitWriter.{BitWriter}
 
 -- the bit at which a writer stands
@@ -40,3 +43,26 @@ pub record Puts (before : List ℕ) (w : BitWriter) (fs : List Field) (n : ℕ) 
   pub few : r .waiting < byteWidth
   pub moved : place r ≡ place w + n
   pub same-length : length after ≡ length before
+
+-- ---- what is put
+
+-- the name lengths of the first n slots, and the reference counts of the first n ranges
+unfoldable pub lengthsIn : ℕ → List ℕ → List ℕ
+lengthsIn n categories = map (λ p. p .len) (map nameSlotOf (pieces nameSlotSize n categories))
+
+unfoldable pub countsIn : ℕ → List ℕ → List ℕ
+countsIn n ranges = map (λ r. r .count) (map slotOf (pieces rangeSlotSize n ranges))
+
+-- the first n references from a place on
+unfoldable pub numbersFrom : ℕ → ℕ → List ℕ → List ℕ
+numbersFrom first n references = map (num referenceSize 0) (pieces referenceSize n (drop (referenceSize * first) references))
+
+-- the head of a pack with these counts
+unfoldable pub headOf : Counts → List Field
+headOf n =
+    field versionWidth version ∷ field categoriesWidth (n .categories) ∷ field linesWidth (n .definitions) ∷ field rangesWidth (n .ranges)
+    ∷ field referencesWidth (n .references) ∷ []
+
+-- where nothing is written
+abbrev pub start : BitWriter
+start = record { at = 0; waiting = 0; held = 0 }

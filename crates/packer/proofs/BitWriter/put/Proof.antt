@@ -55,8 +55,8 @@ loop-less c = omega arith
 loop-again : tie.Need-loop-again Inv-loop μ-loop
 loop-again c = emits-more (c .before .loop .inv) (omega arith) (omega arith)
 
-cast-t20 : tie.Need-cast-t20 Inv-loop μ-loop
-cast-t20 c = omega arith
+cast-rest : tie.Need-cast-rest Inv-loop μ-loop
+cast-rest c = omega arith
 
 same-length : tie.Need-same-length Inv-loop μ-loop
 same-length c = c .before .loop .inv .same-length
@@ -84,6 +84,6 @@ put-spec =
     add-at
     loop-less
     loop-again
-    cast-t20
+    cast-rest
     same-length
     returns)
