@@ -9,12 +9,12 @@ use mathlib.Core.List.{List, [], _∷_, _++_, map, append-nil}
 use lib.Dec.{eqb}
 use lib.ListN.{length, take, drop, getD, length-drop}
 use lib.Seq.{drop-drop, getD-take, getD-drop, take-suc}
-use Rattle.paper.specs.Lists.{joined}
+use Rattle.paper.specs.Lists.{joined, sum}
 use Rattle.paper.specs.CharDef.Reading.{Definition}
 use Rattle.paper.specs.Pack.Fields.{Field, field, flag, definitionFields}
 use Rattle.paper.specs.Tables.Layout.{definitionSize, referenceSize, invokeAt, groupAt, definitionOf, pieces}
 use Rattle.paper.specs.Tables.Lent.{num, got}
-use Rattle.paper.proofs.Lists.Facts.{map-append, joined-append}
+use Rattle.paper.proofs.Lists.Facts.{map-append, joined-map, sum-append}
 use Rattle.packer.specs.Writer.{numbersFrom}
 use Rattle.hold.proofs.Turn.{entry}
 use Rattle.hold.proofs.Entries.{first-got}
@@ -34,15 +34,41 @@ pub pieces-more : (w i : ℕ) (l : List ℕ) → pieces w (i + 1) l ≡ pieces w
 unfolding pieces
 pieces-more w i l = pieces-add w i 1 l
 
+pub joined-snoc : {A B : Type 0} (f : A → List B) (xs : List A) (x : A) → joined (map f (xs ++ (x ∷ []))) ≡ joined (map f xs) ++ f x
+joined-snoc f xs x = joined-map f xs (x ∷ []) ∙ ap (λ l. joined (map f xs) ++ l) (append-nil (f x))
+
 -- what is made of the entries so far, and of one more
 pub joined-more : {A B : Type 0} (f : A → List B) (g : List ℕ → A) (w i : ℕ) (l : List ℕ)
     → joined (map f (map g (pieces w (i + 1) l))) ≡ joined (map f (map g (pieces w i l))) ++ f (g (entry w i l))
 joined-more f g w i l =
     ap (λ ps. joined (map f (map g ps))) (pieces-more w i l)
     ∙ ap (λ xs. joined (map f xs)) (map-append g (pieces w i l) (entry w i l ∷ []))
-    ∙ ap joined (map-append f (map g (pieces w i l)) (g (entry w i l) ∷ []))
-    ∙ joined-append (map f (map g (pieces w i l))) (f (g (entry w i l)) ∷ [])
-    ∙ ap (λ x. joined (map f (map g (pieces w i l))) ++ x) (append-nil (f (g (entry w i l))))
+    ∙ joined-snoc f (map g (pieces w i l)) (g (entry w i l))
+
+-- ---- a number in each entry
+
+module _ {A : Type 0} (f : A → ℕ) (g : List ℕ → A) (w : ℕ) (l : List ℕ) where
+  pub amounts-more : (i : ℕ) → map f (map g (pieces w (i + 1) l)) ≡ map f (map g (pieces w i l)) ++ (f (g (entry w i l)) ∷ [])
+  amounts-more i =
+      ap (λ ps. map f (map g ps)) (pieces-more w i l)
+      ∙ ap (map f) (map-append g (pieces w i l) (entry w i l ∷ []))
+      ∙ map-append f (map g (pieces w i l)) (g (entry w i l) ∷ [])
+
+  pub amounts-sum : (i : ℕ) → sum (map f (map g (pieces w (i + 1) l))) ≡ sum (map f (map g (pieces w i l))) + f (g (entry w i l))
+  amounts-sum i =
+      ap sum (amounts-more i) ∙ sum-append (map f (map g (pieces w i l))) (f (g (entry w i l)) ∷ []) ∙ omega arith
+
+  -- those so far are no more than all
+  pub amounts-below : (i n : ℕ) → i ≤ n → sum (map f (map g (pieces w i l))) ≤ sum (map f (map g (pieces w n l)))
+  amounts-below i n h =
+      let e : n ≡ i + (n - i) = omega arith in
+      let a : sum (map f (map g (pieces w n l))) ≡ sum (map f (map g (pieces w i l))) + sum (map f (map g (pieces w (n - i) (drop (w * i) l)))) =
+      ap (λ k. sum (map f (map g (pieces w k l)))) e
+      ∙ ap (λ ps. sum (map f (map g ps))) (pieces-add w i (n - i) l)
+      ∙ ap (λ xs. sum (map f xs)) (map-append g (pieces w i l) (pieces w (n - i) (drop (w * i) l)))
+      ∙ ap sum (map-append f (map g (pieces w i l)) (map g (pieces w (n - i) (drop (w * i) l))))
+      ∙ sum-append (map f (map g (pieces w i l))) (map f (map g (pieces w (n - i) (drop (w * i) l)))) in
+      omega arith
 
 -- ---- a definition
 

@@ -2,3 +2,5 @@
 pub mod Bits
 pub mod Writing
 pub mod Entries
+pub mod Names
+pub mod Ranges

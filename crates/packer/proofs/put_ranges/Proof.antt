@@ -1,0 +1,138 @@
+-- `packer::put_ranges` meets its contract: before each turn the ranges so far are put, and `used` is the sum of their counts. Assumes nothing.
+use Prim.Native.Nat.{_+_, _*_, _-_, _≤_}
+use native.Mathlib.Omega.{arith}
+use mathlib.Core.Path.{_≡_, refl, ap, _∙_}
+use mathlib.Core.List.{map}
+use lib.ListN.{length}
+use borrow.Author.Needs.{needs}
+use Rattle.paper.specs.Lists.{joined, sum}
+use Rattle.paper.specs.Pack.Fields.{rangeWidth, numberWidth, rangeFields}
+use Rattle.paper.specs.Tables.Layout.{rangeSlotSize, slotOf, pieces, ranging}
+use Rattle.packer.specs.Writer.{Puts, countsIn, numbersFrom}
+use Rattle.packer.proofs.Writing.{puts-nothing, puts-both, puts-are}
+use Rattle.packer.proofs.Ranges.{range-sum, range-fits, range-more}
+use Rattle.packer.proofs.put_ranges.Statement.{statement}
+use Rattle.packer.proofs.put_ranges.Tie as tie
+use Rattle.packer.proofs.put_ranges.Reads as reads
+use Rattle.packer.proofs.put_ranges.Lts as lts
+use Rattle.packer.proofs.put_bounds.Reads as put-bounds-reads
+use Rattle.packer.proofs.put_references.Reads as put-references-reads
+use Rattle.table.proofs.get_u16.Reads as get-u16-reads
+
+abbrev Inv-loop : tie.InvT-loop
+Inv-loop out₀ ranges references n w₀ used₀ i₀ out w used i =
+    (i ≤ n)
+    × ((used ≡ sum (countsIn i ranges))
+    × Puts out₀ w₀ (joined (map rangeFields (ranging (map slotOf (pieces rangeSlotSize i ranges)) (numbersFrom 0 (sum (countsIn n ranges)) references)))) (rangeWidth * i + numberWidth * used) out w)
+
+abbrev μ-loop : tie.MeasureT-loop
+μ-loop out₀ ranges references n w₀ used₀ i₀ out w used i = n - i
+
+-- src/lib.rt:247:5
+loop-holds : tie.Need-loop-holds Inv-loop μ-loop
+unfolding countsIn pieces ranging
+loop-holds c = (omega arith, (refl, puts-nothing _ _ _ ((c .before .before .before .pre .1 .1))))
+
+-- src/lib.rt:248:18
+mul-at : tie.Need-mul-at Inv-loop μ-loop
+mul-at c = omega arith
+
+-- src/lib.rt:249:13
+get-u16-requires : tie.Need-get-u16-requires Inv-loop μ-loop
+get-u16-requires c κs = search needs
+
+-- src/lib.rt:250:44
+add-get-u16 : tie.Need-add-get-u16 Inv-loop μ-loop
+add-get-u16 c = omega arith
+
+-- src/lib.rt:250:13
+get-u16-requires-2 : tie.Need-get-u16-requires-2 Inv-loop μ-loop
+get-u16-requires-2 c κs = search needs
+
+-- src/lib.rt:251:44
+add-get-u16-2 : tie.Need-add-get-u16-2 Inv-loop μ-loop
+add-get-u16-2 c = omega arith
+
+-- src/lib.rt:251:13
+get-u16-requires-3 : tie.Need-get-u16-requires-3 Inv-loop μ-loop
+get-u16-requires-3 c κs = search needs
+
+-- src/lib.rt:252:13
+put-bounds-requires : tie.Need-put-bounds-requires Inv-loop μ-loop
+put-bounds-requires c κs =
+    let f = (range-fits ((c .before .before .before .before .before .before .before .before .before .args .ranges .now)) ((c .before .before .before .before .before .before .before .before .before .args .references .now)) ((c .before .before .before .before .before .before .before .before .before .args .n)) ((c .before .before .before .before .before .loop .i)) ((c .before .before .before .before .before .loop .used)) _ _ _ ((c .before .before .before .before .loop-test .taken)) ((c .before .before .before .before .before .before .before .before .before .pre .0)) ((c .before .before .before .get-u16 .ensures)) ((c .before .before .get-u162 .ensures)) ((c .before .get-u163 .ensures)) ((c .before .before .before .before .before .loop .inv .1 .0))) in
+    record { few = omega arith; room = omega arith }
+
+-- src/lib.rt:253:59
+cast-put-references : tie.Need-cast-put-references Inv-loop μ-loop
+cast-put-references c = omega arith
+
+-- src/lib.rt:253:9
+put-references-requires : tie.Need-put-references-requires Inv-loop μ-loop
+put-references-requires c κs =
+    let f = (range-fits ((c .before .before .before .before .before .before .before .before .before .before .before .before .before .args .ranges .now)) ((c .before .before .before .before .before .before .before .before .before .before .before .before .before .args .references .now)) ((c .before .before .before .before .before .before .before .before .before .before .before .before .before .args .n)) ((c .before .before .before .before .before .before .before .before .before .loop .i)) ((c .before .before .before .before .before .before .before .before .before .loop .used)) _ _ _ ((c .before .before .before .before .before .before .before .before .loop-test .taken)) ((c .before .before .before .before .before .before .before .before .before .before .before .before .before .pre .0)) ((c .before .before .before .before .before .before .before .get-u16 .ensures)) ((c .before .before .before .before .before .before .get-u162 .ensures)) ((c .before .before .before .before .before .get-u163 .ensures)) ((c .before .before .before .before .before .before .before .before .before .loop .inv .1 .0))) in
+    (omega arith, record { few = omega arith; room = omega arith })
+
+-- src/lib.rt:254:17
+cast-used : tie.Need-cast-used Inv-loop μ-loop
+cast-used c = omega arith
+
+-- src/lib.rt:254:9
+add-used : tie.Need-add-used Inv-loop μ-loop
+add-used c = let f = (range-fits ((c .before .before .before .before .before .before .before .before .before .before .before .before .before .before .before .before .args .ranges .now)) ((c .before .before .before .before .before .before .before .before .before .before .before .before .before .before .before .before .args .references .now)) ((c .before .before .before .before .before .before .before .before .before .before .before .before .before .before .before .before .args .n)) ((c .before .before .before .before .before .before .before .before .before .before .before .before .loop .i)) ((c .before .before .before .before .before .before .before .before .before .before .before .before .loop .used)) _ _ _ ((c .before .before .before .before .before .before .before .before .before .before .before .loop-test .taken)) ((c .before .before .before .before .before .before .before .before .before .before .before .before .before .before .before .before .pre .0)) ((c .before .before .before .before .before .before .before .before .before .before .get-u16 .ensures)) ((c .before .before .before .before .before .before .before .before .before .get-u162 .ensures)) ((c .before .before .before .before .before .before .before .before .get-u163 .ensures)) ((c .before .before .before .before .before .before .before .before .before .before .before .before .loop .inv .1 .0))) in omega arith
+
+-- src/lib.rt:255:9
+add-i : tie.Need-add-i Inv-loop μ-loop
+add-i c = omega arith
+
+-- src/lib.rt:247:5
+loop-less : tie.Need-loop-less Inv-loop μ-loop
+loop-less c = omega arith
+
+-- src/lib.rt:247:5
+loop-again : tie.Need-loop-again Inv-loop μ-loop
+loop-again c = (
+  omega arith,
+  (
+    (range-sum ((c .before .before .before .before .before .before .before .before .before .before .before .before .before .before .before .before .args .ranges .now)) ((c .before .before .before .before .before .before .before .before .before .before .before .before .before .before .before .before .args .references .now)) ((c .before .before .before .before .before .before .before .before .before .before .before .before .before .before .before .before .args .n)) ((c .before .before .before .before .before .before .before .before .before .before .before .before .loop .i)) ((c .before .before .before .before .before .before .before .before .before .before .before .before .loop .used)) _ _ _ ((c .before .before .before .before .before .before .before .before .before .before .before .loop-test .taken)) ((c .before .before .before .before .before .before .before .before .before .before .before .before .before .before .before .before .pre .0)) ((c .before .before .before .before .before .before .before .before .before .before .get-u16 .ensures)) ((c .before .before .before .before .before .before .before .before .before .get-u162 .ensures)) ((c .before .before .before .before .before .before .before .before .get-u163 .ensures)) ((c .before .before .before .before .before .before .before .before .before .before .before .before .loop .inv .1 .0))),
+    puts-are (puts-both ((c .before .before .before .before .before .before .before .before .before .before .before .before .loop .inv .1 .1)) (puts-both ((c .before .before .before .before .before .before .put-bounds .ensures)) ((c .before .before .put-references .ensures)))) (range-more ((c .before .before .before .before .before .before .before .before .before .before .before .before .before .before .before .before .args .ranges .now)) ((c .before .before .before .before .before .before .before .before .before .before .before .before .before .before .before .before .args .references .now)) ((c .before .before .before .before .before .before .before .before .before .before .before .before .before .before .before .before .args .n)) ((c .before .before .before .before .before .before .before .before .before .before .before .before .loop .i)) ((c .before .before .before .before .before .before .before .before .before .before .before .before .loop .used)) _ _ _ ((c .before .before .before .before .before .before .before .before .before .before .before .loop-test .taken)) ((c .before .before .before .before .before .before .before .before .before .before .before .before .before .before .before .before .pre .0)) ((c .before .before .before .before .before .before .before .before .before .before .get-u16 .ensures)) ((c .before .before .before .before .before .before .before .before .before .get-u162 .ensures)) ((c .before .before .before .before .before .before .before .before .get-u163 .ensures)) ((c .before .before .before .before .before .before .before .before .before .before .before .before .loop .inv .1 .0)))
+        (omega arith),
+  ),
+)
+
+-- src/lib.rt:232:1
+same-length : tie.Need-same-length Inv-loop μ-loop
+same-length c = ((c .before .loop .inv .1 .1 .same-length))
+
+-- src/lib.rt:232:1
+returns : tie.Need-returns Inv-loop μ-loop
+returns c =
+    let e : (c .before .loop .i) ≡ (c .before .before .before .before .before .args .n) = omega arith in
+    let f : (c .before .loop .used) ≡ sum (countsIn ((c .before .before .before .before .before .args .n)) ((c .before .before .before .before .before .args .ranges .now))) = ((c .before .loop .inv .1 .0)) ∙ ap (λ k. sum (countsIn k ((c .before .before .before .before .before .args .ranges .now)))) e in
+    puts-are ((c .before .loop .inv .1 .1))
+    (ap (λ k. joined (map rangeFields (ranging (map slotOf (pieces rangeSlotSize k ((c .before .before .before .before .before .args .ranges .now)))) (numbersFrom 0 (sum (countsIn ((c .before .before .before .before .before .args .n)) ((c .before .before .before .before .before .args .ranges .now)))) ((c .before .before .before .before .before .args .references .now)))))) e)
+    (omega arith)
+
+pub put-ranges-spec : {M : Type 1} → statement M
+put-ranges-spec =
+    tie.close
+    (tie.spec
+    Inv-loop
+    μ-loop
+    loop-holds
+    mul-at
+    get-u16-requires
+    add-get-u16
+    get-u16-requires-2
+    add-get-u16-2
+    get-u16-requires-3
+    put-bounds-requires
+    cast-put-references
+    put-references-requires
+    cast-used
+    add-used
+    add-i
+    loop-less
+    loop-again
+    same-length
+    returns)
