@@ -1,4 +1,4 @@
--- The five lengths that `parse` asks for, tables of just these sizes, and zero in all their places.
+-- The five lengths that a reader asks for, tables of just these sizes, and zero in all their places.
 -- Assumes nothing.
 use Prim.Native.Nat.{ℕ, _*_, _-_, _≤_}
 use native.Mathlib.Omega.{arith}
@@ -15,8 +15,8 @@ use Rattle.paper.specs.Tables.Layout.{Tables, inRoom, nameSlotSize, definitionS
 use Rattle.paper.specs.Tables.Lent.{zeroed, padded}
 use Rattle.paper.proofs.Lists.Facts.{T→true}
 use Rattle.paper.proofs.Tables.Trip.{tables-is}
-use Rattle.char_def.specs.Lines.{Sized, noTables}
-use Rattle.char_def.specs.Parse.{roomFor, hasRoom}
+use Rattle.paper.specs.Tables.Reader.{roomFor, hasRoom, cleared}
+use Rattle.room.specs.Sized.{Sized, noTables}
 
 -- ---- refusal 1
 
@@ -117,12 +117,16 @@ zero-padded n l e =
     rw (le-leb n (length l) h)
     (ap (λ x. replicate n 0 ++ x) (drop-of-length-le l g) ∙ append-nil (replicate n 0) ∙ ap (λ m. replicate m 0) k)
 
-pub all-zero : (t : Tables) → Sized t → (a b c d e : List ℕ)
+pub cleared-sized : (t : Tables) → Sized t → cleared t ≡ inRoom noTables
+unfolding cleared inRoom noTables
+cleared-sized t z =
+    tables-is (inRoom noTables) _ _ _ _ _ (zero-padded maxNameBytes (t .names) (z .names)) (zero-padded (nameSlotSize * maxCategories) (t .categories) (z .categories))
+    (zero-padded (definitionSize * maxCategoryLines) (t .definitions) (z .definitions)) (zero-padded (rangeSlotSize * maxRanges) (t .ranges) (z .ranges))
+    (zero-padded (referenceSize * maxReferences) (t .references) (z .references))
+
+pub clear-each : (t : Tables) (a b c d e : List ℕ)
     → a ≡ zeroed maxNameBytes (t .names) → b ≡ zeroed (nameSlotSize * maxCategories) (t .categories) → c ≡ zeroed (definitionSize * maxCategoryLines) (t .definitions)
     → d ≡ zeroed (rangeSlotSize * maxRanges) (t .ranges) → e ≡ zeroed (referenceSize * maxReferences) (t .references)
-    → record { names = a; categories = b; definitions = c; ranges = d; references = e } ≡ inRoom noTables
-unfolding inRoom noTables
-all-zero t z a b c d e p q r s u =
-    tables-is (inRoom noTables) a b c d e (p ∙ zero-padded maxNameBytes _ (z .names)) (q ∙ zero-padded (nameSlotSize * maxCategories) _ (z .categories))
-    (r ∙ zero-padded (definitionSize * maxCategoryLines) _ (z .definitions)) (s ∙ zero-padded (rangeSlotSize * maxRanges) _ (z .ranges))
-    (u ∙ zero-padded (referenceSize * maxReferences) _ (z .references))
+    → record { names = a; categories = b; definitions = c; ranges = d; references = e } ≡ cleared t
+unfolding cleared
+clear-each t a b c d e p q r s u = tables-is (cleared t) a b c d e p q r s u

@@ -1,8 +1,8 @@
--- `char_def::has_room` meets its contract: each comparison alone refuses. Assumes nothing.
+-- `room::has_room` meets its contract: each comparison alone refuses. Assumes nothing.
 use native.Mathlib.Omega.{arith}
-use Rattle.char_def.proofs.Sizes.{no-room, has-room}
-use Rattle.char_def.proofs.has_room.Statement.{statement}
-use Rattle.char_def.proofs.has_room.Tie as tie
+use Rattle.room.proofs.Sizes.{no-room, has-room}
+use Rattle.room.proofs.has_room.Statement.{statement}
+use Rattle.room.proofs.has_room.Tie as tie
 
 returns : tie.Need-returns
 returns c = no-room _ _ _ _ _ (λ h. omega arith)

@@ -1,8 +1,8 @@
--- `char_def::zero_all` meets its contract: each table is zero to its size. Assumes nothing.
-use Rattle.char_def.proofs.Sizes.{all-zero}
+-- `room::zero_all` meets its contract: each table is zero to its size. Assumes nothing.
+use Rattle.room.proofs.Sizes.{clear-each}
 use borrow.Author.Needs.{needs}
-use Rattle.char_def.proofs.zero_all.Statement.{statement}
-use Rattle.char_def.proofs.zero_all.Tie as tie
+use Rattle.room.proofs.zero_all.Statement.{statement}
+use Rattle.room.proofs.zero_all.Tie as tie
 
 zero-requires : tie.Need-zero-requires
 zero-requires c κs = search needs
@@ -35,7 +35,7 @@ same-length-5 : tie.Need-same-length-5
 same-length-5 c = search needs
 
 returns : tie.Need-returns
-returns c = all-zero _ ((c .before .before .before .before .before .before .before .before .before .before .before .before .before .before .before .before .before .before .before .before .before .before .before .before .before .pre)) _ _ _ _ _ ((c .before .before .before .before .before .before .before .before .before .before .before .before .before .before .before .before .before .before .zero .ensures)) ((c .before .before .before .before .before .before .before .before .before .before .before .before .before .before .zero2 .ensures)) ((c .before .before .before .before .before .before .before .before .before .before .zero3 .ensures)) ((c .before .before .before .before .before .before .zero4 .ensures)) ((c .before .before .zero5 .ensures))
+returns c = clear-each _ _ _ _ _ _ ((c .before .before .before .before .before .before .before .before .before .before .before .before .before .before .before .before .before .before .zero .ensures)) ((c .before .before .before .before .before .before .before .before .before .before .before .before .before .before .zero2 .ensures)) ((c .before .before .before .before .before .before .before .before .before .before .zero3 .ensures)) ((c .before .before .before .before .before .before .zero4 .ensures)) ((c .before .before .zero5 .ensures))
 
 pub zero-all-spec : {M : Type 1} → statement M
 zero-all-spec =
