@@ -4,3 +4,6 @@ pub mod Writing
 pub mod Entries
 pub mod Names
 pub mod Ranges
+pub mod Handed
+pub mod Whole
+pub mod Answer

@@ -1,13 +1,14 @@
 -- What the functions below `write_pack` promise: fields put behind one another at a bit position, and no other byte of the lent memory changed.
 -- Assumes nothing.
-use Prim.Native.Nat.{ℕ, _+_, _*_, _≤_, _<_}
+use Prim.Native.Nat.{ℕ, _+_, _*_, _/_, _≤_, _<_}
 use mathlib.Core.Path.{_≡_}
 use mathlib.Core.List.{List, [], _∷_, _++_, map}
 use lib.Dec.{T}
 use lib.ListN.{length, take, drop}
+use Rattle.paper.specs.Sizes.{maxCategories, maxNameBytes, maxCategoryLines, maxRanges, maxReferences}
 use Rattle.paper.specs.Lists.{all}
 use Rattle.paper.specs.Numbers.Bytes.{isByte}
-use Rattle.paper.specs.Pack.Fields.{version, versionWidth, categoriesWidth, linesWidth, rangesWidth, referencesWidth, byteWidth, Field, field, bits, spell, bitsOf}
+use Rattle.paper.specs.Pack.Fields.{version, versionWidth, categoriesWidth, linesWidth, rangesWidth, referencesWidth, nameLengthWidth, byteWidth, numberWidth, headWidth, definitionWidth, rangeWidth, Field, field, bits, spell, bitsOf}
 use Rattle.paper.specs.Tables.Layout.{nameSlotSize, rangeSlotSize, referenceSize, nameSlotOf, slotOf, pieces}
 use Rattle.paper.specs.Tables.Lent.{num}
 use Rattle.paper.specs.declared.Counts.{Counts}
@@ -62,6 +63,23 @@ unfoldable pub headOf : Counts → List Field
 headOf n =
     field versionWidth version ∷ field categoriesWidth (n .categories) ∷ field linesWidth (n .definitions) ∷ field rangesWidth (n .ranges)
     ∷ field referencesWidth (n .references) ∷ []
+
+-- the width of a pack with these counts, in bits, and its length in bytes
+abbrev pub packWidth : Counts → ℕ
+packWidth n =
+    headWidth + (nameLengthWidth * n .categories + byteWidth * n .bytes) + definitionWidth * n .definitions
+    + (rangeWidth * n .ranges + numberWidth * n .references)
+
+abbrev pub packLength : Counts → ℕ
+packLength n = (packWidth n + 7) / byteWidth
+
+-- counts within the limits
+pub record Limited (n : Counts) : Type 0 where
+  pub categories-fit : n .categories ≤ maxCategories
+  pub names-fit : n .bytes ≤ maxNameBytes
+  pub definitions-fit : n .definitions ≤ maxCategoryLines
+  pub ranges-fit : n .ranges ≤ maxRanges
+  pub references-fit : n .references ≤ maxReferences
 
 -- where nothing is written
 abbrev pub start : BitWriter

@@ -1,5 +1,8 @@
 // Writes the pack: "The pack", the writer. Fields go out one behind another, most significant bit first.
 use paper::Counts;
+use paper::PACK_ROOM_SHORT;
+use paper::Refusal;
+use paper::TABLES_APART;
 use table::CATEGORY_BYTES;
 use table::COUNT_AT;
 use table::DEFINITION_BYTES;
@@ -12,12 +15,14 @@ use table::UPPER_AT;
 ghost use mathlib.Core.Path.{_≡_};
 ghost use mathlib.Core.List.{[], _∷_, _++_, map};
 ghost use Prim.Native.Nat.{_+_, _*_, _≤_, _<_};
-ghost use lib.Dec.{eqb};
+ghost use lib.Dec.{T, eqb};
 ghost use lib.ListN.{length, getD, take, drop};
 ghost use Rattle.paper.specs.Lists.{joined, sum};
-ghost use Rattle.paper.specs.Pack.Fields.{field, flag, byteWidth, nameLengthWidth, lengthWidth, boundWidth, countWidth, numberWidth, headWidth, definitionWidth, rangeWidth, nameFields, definitionFields, rangeFields};
+ghost use Rattle.paper.specs.Pack.Fields.{field, flag, byteWidth, nameLengthWidth, lengthWidth, boundWidth, countWidth, numberWidth, headWidth, definitionWidth, rangeWidth, nameFields, definitionFields, rangeFields, packFields, packBytes};
 ghost use Rattle.paper.specs.Tables.Layout.{nameSlotSize, definitionSize, rangeSlotSize, referenceSize, definitionOf, slotOf, pieces, split, ranging};
-ghost use Rattle.packer.specs.Writer.{Room, Puts, lengthsIn, countsIn, numbersFrom, headOf, start};
+ghost use Rattle.paper.specs.Computed.HandedIn.{decoded, holds};
+ghost use Rattle.packer.specs.Writer.{Room, Puts, lengthsIn, countsIn, numbersFrom, headOf, packWidth, packLength, Limited, start};
+ghost use Rattle.packer.specs.Write.{WritesPack};
 
 // The widths of fields in bits, as `Pack.Fields` has them.
 const VERSION_WIDTH: usize = 8;
@@ -44,6 +49,17 @@ const COUNT_WIDTH: usize = 14;
 
 const NUMBER_WIDTH: usize = 9;
 
+// Of the head, of a definition, and of a range without its references.
+const HEAD_WIDTH: usize = VERSION_WIDTH
+    + CATEGORIES_WIDTH
+    + LINES_WIDTH
+    + RANGES_WIDTH
+    + REFERENCES_WIDTH;
+
+const DEFINITION_WIDTH: usize = FLAG_WIDTH + FLAG_WIDTH + LENGTH_WIDTH;
+
+const RANGE_WIDTH: usize = BOUND_WIDTH + BOUND_WIDTH + COUNT_WIDTH;
+
 const VERSION: u64 = 1;
 
 const BYTES: u64 = 256;
@@ -53,6 +69,12 @@ pub struct BitWriter {
     pub at: usize,
     pub waiting: usize,
     pub held: u8,
+}
+
+// How many bytes the pack has; or 26 or 22.
+pub enum Written {
+    Length(usize),
+    Refused(Refusal),
 }
 
 fn wide(x: u8) -> u64
@@ -254,4 +276,100 @@ fn put_ranges(
         i += 1;
     }
     w
+}
+
+// The length in bytes of a pack with these counts: "zero bits fill the last byte".
+fn pack_length(counts: Counts) -> usize
+    requires { ⌜ Limited counts ⌝ }
+    ensures { λ r. ⌜ r ≡ packLength counts ⌝ }
+{
+    let names = NAME_LENGTH_WIDTH * counts.categories + BYTE_WIDTH * counts.bytes;
+    let definitions = DEFINITION_WIDTH * counts.definitions;
+    let ranges = RANGE_WIDTH * counts.ranges + NUMBER_WIDTH * counts.references;
+    (HEAD_WIDTH + names + definitions + ranges + BYTE_WIDTH - 1) / BYTE_WIDTH
+}
+
+// Every field of the pack, of tables that hold together.
+fn put_fields<'a>(
+    out: &mut [u8],
+    names: &'a [u8],
+    categories: &'a [u8],
+    definitions: &'a [u8],
+    ranges: &'a [u8],
+    references: &'a [u8],
+    counts: Counts,
+) -> BitWriter
+    requires { ⌜ T (holds (record { names = now names; categories = now categories; definitions = now definitions; ranges = now ranges; references = now references }) counts) ⌝ }
+    requires { ⌜ Room (now out) start (packWidth counts) ⌝ }
+    ensures { λ r. ⌜ Puts (now (out .entry)) start (packFields (decoded (record { names = now (names .entry); categories = now (categories .entry); definitions = now (definitions .entry); ranges = now (ranges .entry); references = now (references .entry) }) counts)) (packWidth counts) (now (out .exit)) r ⌝ }
+{
+    let head = put_head(out, counts);
+    let named = put_names(head, out, names, categories, counts.categories);
+    let defined = put_definitions(named, out, definitions, counts.definitions);
+    put_ranges(defined, out, ranges, references, counts.ranges)
+}
+
+// The pack of tables that hold together, in a room that is long enough: its fields, and zero bits up to the end of the last byte.
+fn put_pack<'a>(
+    out: &mut [u8],
+    names: &'a [u8],
+    categories: &'a [u8],
+    definitions: &'a [u8],
+    ranges: &'a [u8],
+    references: &'a [u8],
+    counts: Counts,
+)
+    requires { ⌜ T (holds (record { names = now names; categories = now categories; definitions = now definitions; ranges = now ranges; references = now references }) counts) ⌝ }
+    requires { ⌜ packLength counts ≤ length (now out) ⌝ }
+    ensures { λ _. ⌜ now (out .exit) ≡ packBytes (decoded (record { names = now (names .entry); categories = now (categories .entry); definitions = now (definitions .entry); ranges = now (ranges .entry); references = now (references .entry) }) counts) ++ drop (length (packBytes (decoded (record { names = now (names .entry); categories = now (categories .entry); definitions = now (definitions .entry); ranges = now (ranges .entry); references = now (references .entry) }) counts))) (now (out .entry)) ⌝ }
+{
+    let end = put_fields(
+        out,
+        names,
+        categories,
+        definitions,
+        ranges,
+        references,
+        counts,
+    );
+    let pad = (BYTE_WIDTH - end.waiting) % BYTE_WIDTH;
+    end.put(out, pad, 0);
+}
+
+// Writes the pack of a reading that is handed in as tables with their counts. Nothing is written for 26 and 22, and nothing behind the
+// pack.
+pub fn write_pack<'a>(
+    names: &'a [u8],
+    categories: &'a [u8],
+    definitions: &'a [u8],
+    ranges: &'a [u8],
+    references: &'a [u8],
+    counts: Counts,
+    out: &mut [u8],
+) -> Written
+    ensures { λ r. ⌜ WritesPack (record { names = now (names .entry); categories = now (categories .entry); definitions = now (definitions .entry); ranges = now (ranges .entry); references = now (references .entry) }) counts (now (out .entry)) (now (out .exit)) r ⌝ }
+{
+    if !hold::reading_holds(names, categories, definitions, ranges, references, counts) {
+        return Written::Refused(Refusal {
+            number: TABLES_APART,
+            place: 0,
+        });
+    }
+    let need = pack_length(counts);
+    if out.len() < need {
+        return Written::Refused(Refusal {
+            number: PACK_ROOM_SHORT,
+            place: 0,
+        });
+    }
+    put_pack(
+        out,
+        names,
+        categories,
+        definitions,
+        ranges,
+        references,
+        counts,
+    );
+    Written::Length(need)
 }
