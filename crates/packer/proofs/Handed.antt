@@ -8,13 +8,15 @@ use lib.Dec.{T}
 use lib.ListN.{length}
 use Rattle.paper.specs.Lists.{joined, sum}
 use Rattle.paper.specs.CharDef.Reading.{Reading, nameBytes, references}
-use Rattle.paper.specs.Pack.Fields.{byteWidth, Field, field, head, nameFields, definitionFields, rangeFields, packFields, packBits, packBytes, inBytes}
+use Rattle.paper.specs.Pack.Fields.{nameLengthWidth, byteWidth, numberWidth, headWidth, definitionWidth, rangeWidth, head, nameFields, definitionFields, rangeFields, packFields, packBits, packBytes, inBytes}
 use Rattle.paper.specs.Tables.Layout.{Tables, countsOf, definitionSize, rangeSlotSize, referenceSize, definitionOf, slotOf, pieces, split, ranging}
 use Rattle.paper.specs.Computed.HandedIn.{nameSlotsIn, namesIn, slotsIn, numbersIn, decoded, holds}
 use Rattle.paper.specs.declared.Counts.{Counts}
 use Rattle.paper.proofs.Pack.Size.{packBits-length, inBytes-length}
 use Rattle.paper.proofs.Tables.Trip.{Enough, Parts, parts, names-lens, ranges-counts, counts-are}
-use Rattle.packer.specs.Writer.{lengthsIn, countsIn, numbersFrom, headOf, packWidth, packLength, Limited}
+use Rattle.packer.specs.declared.BitWriter.{BitWriter}
+use Rattle.packer.specs.Writer.{lengthsIn, countsIn, numbersFrom, headOf, packWidth, packLength, Limited, start, Puts}
+use Rattle.packer.proofs.Writing.{puts-both, puts-are}
 
 -- what the loops ask
 pub record Asked (t : Tables) (n : Counts) : Type 0 where
@@ -44,7 +46,7 @@ head-is : (r : Reading) (n : Counts) → countsOf r ≡ n → headOf n ≡ head 
 unfolding countsOf headOf head
 head-is r n e = ap headOf (sym e)
 
-pub fields-are : (t : Tables) (n : Counts) → T (holds t n)
+fields-are : (t : Tables) (n : Counts) → T (holds t n)
     → headOf n
     ++ (joined (map nameFields (split (lengthsIn (n .categories) (t .categories)) (t .names)))
     ++ (joined (map definitionFields (map definitionOf (pieces definitionSize (n .definitions) (t .definitions))))
@@ -59,6 +61,19 @@ fields-are t n u =
     ++ joined (map rangeFields (ranging (map slotOf (pieces rangeSlotSize (n .ranges) (t .ranges))) (numbersFrom 0 m (t .references)))))))
     (head-is (decoded t n) n (counts-are t n (parts t n u)))
     (a .counts-sum)
+
+-- head, names, definitions and ranges, put one behind another
+pub fields-put : (t : Tables) (n : Counts) → T (holds t n) → {lent a b c after : List ℕ} {u v w r : BitWriter}
+    → Puts lent start (headOf n) headWidth a u
+    → Puts a u (joined (map nameFields (split (lengthsIn (n .categories) (t .categories)) (t .names)))) (nameLengthWidth * n .categories + byteWidth * sum (lengthsIn (n .categories) (t .categories))) b v
+    → Puts b v (joined (map definitionFields (map definitionOf (pieces definitionSize (n .definitions) (t .definitions))))) (definitionWidth * n .definitions) c w
+    → Puts c w (joined (map rangeFields (ranging (map slotOf (pieces rangeSlotSize (n .ranges) (t .ranges))) (numbersFrom 0 (sum (countsIn (n .ranges) (t .ranges))) (t .references))))) (rangeWidth * n .ranges + numberWidth * sum (countsIn (n .ranges) (t .ranges))) after r
+    → Puts lent start (packFields (decoded t n)) (packWidth n) after r
+fields-put t n h x y z k =
+    let a = asked t n h in
+    let s = a .lengths-sum in
+    let m = a .counts-sum in
+    puts-are (puts-both x (puts-both y (puts-both z k))) (fields-are t n h) (omega arith)
 
 -- ---- the length of the pack
 

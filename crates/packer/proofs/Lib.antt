@@ -7,3 +7,4 @@ pub mod Ranges
 pub mod Handed
 pub mod Whole
 pub mod Answer
+pub mod Promise

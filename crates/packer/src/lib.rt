@@ -65,10 +65,10 @@ const VERSION: u64 = 1;
 const BYTES: u64 = 256;
 
 // Where a writer stands: `at` whole bytes are in memory, and the low `waiting` bits of `held` wait for the byte behind them to be whole.
-pub struct BitWriter {
-    pub at: usize,
-    pub waiting: usize,
-    pub held: u8,
+struct BitWriter {
+    at: usize,
+    waiting: usize,
+    held: u8,
 }
 
 // How many bytes the pack has; or 26 or 22.
@@ -92,7 +92,8 @@ impl BitWriter {
     {
         let one: u64 = 1;
         let low = value & ((one << width) - 1);
-        let held = (wide(self.held) << width) | low;
+        let kept = wide(self.held);
+        let held = (kept << width) | low;
         let mut at = self.at;
         let mut left = self.waiting + width;
         while BYTE_WIDTH <= left {
@@ -107,47 +108,6 @@ impl BitWriter {
             held: rest,
         }
     }
-}
-
-// A flag of a definition: 1 where the byte is 1.
-fn flag_at(definitions: &[u8], at: usize) -> u64
-    requires { ⌜ at < length (now definitions) ⌝ }
-    ensures { λ r. ⌜ r ≡ flag (eqb (getD (now (definitions .entry)) at 0) 1) ⌝ }
-{
-    if definitions[at] == 1 {
-        return 1;
-    }
-    0
-}
-
-// Definition i: "invoke 1, group 1, length 32".
-fn put_definition(from: BitWriter, out: &mut [u8], definitions: &[u8], i: usize) -> BitWriter
-    requires { ⌜ definitionSize * i + definitionSize ≤ length (now definitions) ⌝ }
-    requires { ⌜ Room (now out) from definitionWidth ⌝ }
-    ensures { λ r. ⌜ Puts (now (out .entry)) from (definitionFields (definitionOf (take definitionSize (drop (definitionSize * i) (now (definitions .entry)))))) definitionWidth (now (out .exit)) r ⌝ }
-{
-    let at = DEFINITION_BYTES * i;
-    let invoke = flag_at(definitions, at + INVOKE_AT);
-    let group = flag_at(definitions, at + GROUP_AT);
-    let length = table::get_u32(definitions, at) as u64;
-    let second = from.put(out, FLAG_WIDTH, invoke);
-    let third = second.put(out, FLAG_WIDTH, group);
-    third.put(out, LENGTH_WIDTH, length)
-}
-
-// The definitions, in the order of the table.
-fn put_definitions(from: BitWriter, out: &mut [u8], definitions: &[u8], n: usize) -> BitWriter
-    requires { ⌜ definitionSize * n ≤ length (now definitions) ⌝ }
-    requires { ⌜ Room (now out) from (definitionWidth * n) ⌝ }
-    ensures { λ r. ⌜ Puts (now (out .entry)) from (joined (map definitionFields (map definitionOf (pieces definitionSize n (now (definitions .entry)))))) (definitionWidth * n) (now (out .exit)) r ⌝ }
-{
-    let mut w = from;
-    let mut i = 0;
-    while i < n {
-        w = put_definition(w, out, definitions, i);
-        i += 1;
-    }
-    w
 }
 
 // The head, at the start of the room.
@@ -212,6 +172,47 @@ fn put_names(
         let len = table::get_u16(categories, CATEGORY_BYTES * i + NAME_LENGTH_AT) as usize;
         w = put_name(w, out, names, at, len);
         at += len;
+        i += 1;
+    }
+    w
+}
+
+// A flag of a definition: 1 where the byte is 1.
+fn flag_at(definitions: &[u8], at: usize) -> u64
+    requires { ⌜ at < length (now definitions) ⌝ }
+    ensures { λ r. ⌜ r ≡ flag (eqb (getD (now (definitions .entry)) at 0) 1) ⌝ }
+{
+    if definitions[at] == 1 {
+        return 1;
+    }
+    0
+}
+
+// Definition i: "invoke 1, group 1, length 32".
+fn put_definition(from: BitWriter, out: &mut [u8], definitions: &[u8], i: usize) -> BitWriter
+    requires { ⌜ definitionSize * i + definitionSize ≤ length (now definitions) ⌝ }
+    requires { ⌜ Room (now out) from definitionWidth ⌝ }
+    ensures { λ r. ⌜ Puts (now (out .entry)) from (definitionFields (definitionOf (take definitionSize (drop (definitionSize * i) (now (definitions .entry)))))) definitionWidth (now (out .exit)) r ⌝ }
+{
+    let at = DEFINITION_BYTES * i;
+    let invoke = flag_at(definitions, at + INVOKE_AT);
+    let group = flag_at(definitions, at + GROUP_AT);
+    let length = table::get_u32(definitions, at) as u64;
+    let second = from.put(out, FLAG_WIDTH, invoke);
+    let third = second.put(out, FLAG_WIDTH, group);
+    third.put(out, LENGTH_WIDTH, length)
+}
+
+// The definitions, in the order of the table.
+fn put_definitions(from: BitWriter, out: &mut [u8], definitions: &[u8], n: usize) -> BitWriter
+    requires { ⌜ definitionSize * n ≤ length (now definitions) ⌝ }
+    requires { ⌜ Room (now out) from (definitionWidth * n) ⌝ }
+    ensures { λ r. ⌜ Puts (now (out .entry)) from (joined (map definitionFields (map definitionOf (pieces definitionSize n (now (definitions .entry)))))) (definitionWidth * n) (now (out .exit)) r ⌝ }
+{
+    let mut w = from;
+    let mut i = 0;
+    while i < n {
+        w = put_definition(w, out, definitions, i);
         i += 1;
     }
     w

@@ -5,8 +5,6 @@ use borrow.Author.Needs.{needs}
 use borrow.Author.Tests.{eq-eqb, ne-eqb}
 use Rattle.packer.proofs.flag_at.Statement.{statement}
 use Rattle.packer.proofs.flag_at.Tie as tie
-use Rattle.packer.proofs.flag_at.Reads as reads
-use Rattle.packer.proofs.flag_at.Lts as lts
 
 shared-slice-read-if1 : tie.Need-shared-slice-read-if1
 shared-slice-read-if1 c = search needs

@@ -3,27 +3,19 @@ use Rattle.packer.proofs.Writing.{puts-both}
 use borrow.Author.Needs.{needs}
 use Rattle.packer.proofs.put_bounds.Statement.{statement}
 use Rattle.packer.proofs.put_bounds.Tie as tie
-use Rattle.packer.proofs.put_bounds.Reads as reads
-use Rattle.packer.proofs.put_bounds.Lts as lts
-use Rattle.packer.proofs.BitWriter.put.Reads as put-reads
 
--- src/lib.rt:204:9
 put-requires : tie.Need-put-requires
 put-requires c κs = search needs
 
--- src/lib.rt:205:9
 put-requires-2 : tie.Need-put-requires-2
 put-requires-2 c κs = search needs
 
--- src/lib.rt:206:5
 put-requires-3 : tie.Need-put-requires-3
 put-requires-3 c κs = search needs
 
--- src/lib.rt:200:1
 same-length : tie.Need-same-length
 same-length c = search needs
 
--- src/lib.rt:200:1
 returns : tie.Need-returns
 returns c = puts-both ((c .before .before .before .before .before .before .before .before .before .before .put .ensures)) (puts-both ((c .before .before .before .before .before .before .put2 .ensures)) ((c .before .before .put3 .ensures)))
 

@@ -11,10 +11,6 @@ use Rattle.packer.proofs.Writing.{puts-nothing, puts-both, puts-are}
 use Rattle.packer.proofs.Entries.{byte-more}
 use Rattle.packer.proofs.put_bytes.Statement.{statement}
 use Rattle.packer.proofs.put_bytes.Tie as tie
-use Rattle.packer.proofs.put_bytes.Reads as reads
-use Rattle.packer.proofs.put_bytes.Lts as lts
-use Rattle.packer.proofs.BitWriter.put.Reads as put-reads
-use Rattle.packer.proofs.wide.Reads as wide-reads
 
 abbrev Inv-loop : tie.InvT-loop
 Inv-loop out₀ names first n w₀ i₀ out w i = (i ≤ n) × Puts out₀ w₀ (map (field byteWidth) (take i (drop first names))) (byteWidth * i) out w
@@ -22,46 +18,36 @@ Inv-loop out₀ names first n w₀ i₀ out w i = (i ≤ n) × Puts out₀ w₀ 
 abbrev μ-loop : tie.MeasureT-loop
 μ-loop out₀ names first n w₀ i₀ out w i = n - i
 
--- src/lib.rt:157:5
 loop-holds : tie.Need-loop-holds Inv-loop μ-loop
 loop-holds c = (omega arith, puts-nothing _ _ _ ((c .before .before .pre .1)))
 
--- src/lib.rt:158:47
 add-wide : tie.Need-add-wide Inv-loop μ-loop
 add-wide c = omega arith
 
--- src/lib.rt:158:41
 shared-slice-read-wide : tie.Need-shared-slice-read-wide Inv-loop μ-loop
 shared-slice-read-wide c = omega arith
 
--- src/lib.rt:158:36
 wide-requires : tie.Need-wide-requires Inv-loop μ-loop
 wide-requires c κs = search needs
 
--- src/lib.rt:158:9
 put-requires : tie.Need-put-requires Inv-loop μ-loop
 put-requires c κs = (omega arith, record { few = omega arith; room = omega arith })
 
--- src/lib.rt:159:9
 add-i : tie.Need-add-i Inv-loop μ-loop
 add-i c = omega arith
 
--- src/lib.rt:157:5
 loop-less : tie.Need-loop-less Inv-loop μ-loop
 loop-less c = omega arith
 
--- src/lib.rt:157:5
 loop-again : tie.Need-loop-again Inv-loop μ-loop
 loop-again c = (
   omega arith,
   puts-are (puts-both ((c .before .before .before .before .before .before .before .loop .inv .1)) ((c .before .before .put .ensures))) (byte-more byteWidth ((c .before .before .before .before .before .before .before .before .before .before .args .first)) ((c .before .before .before .before .before .before .before .loop .i)) _ ((c .before .before .before .before .before .before .before .before .before .before .args .names .now)) (omega arith) ((c .before .before .before .wide .ensures))) (omega arith),
 )
 
--- src/lib.rt:150:1
 same-length : tie.Need-same-length Inv-loop μ-loop
 same-length c = ((c .before .loop .inv .1 .same-length))
 
--- src/lib.rt:150:1
 returns : tie.Need-returns Inv-loop μ-loop
 returns c =
     let e : (c .before .loop .i) ≡ (c .before .before .before .before .args .n) = omega arith in

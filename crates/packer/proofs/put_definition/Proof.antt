@@ -6,56 +6,40 @@ use Rattle.packer.proofs.Entries.{definition-fields}
 use borrow.Author.Needs.{needs}
 use Rattle.packer.proofs.put_definition.Statement.{statement}
 use Rattle.packer.proofs.put_definition.Tie as tie
-use Rattle.packer.proofs.put_definition.Reads as reads
-use Rattle.packer.proofs.put_definition.Lts as lts
-use Rattle.packer.proofs.BitWriter.put.Reads as put-reads
-use Rattle.packer.proofs.flag_at.Reads as flag-at-reads
-use Rattle.table.proofs.get_u32.Reads as get-u32-reads
 
--- src/lib.rt:80:14
 mul-at : tie.Need-mul-at
 mul-at c = search needs
 
--- src/lib.rt:81:39
 add-flag-at : tie.Need-add-flag-at
 add-flag-at c = search needs
 
--- src/lib.rt:81:9
 flag-at-requires : tie.Need-flag-at-requires
 flag-at-requires c κs = search needs
 
--- src/lib.rt:82:38
 add-flag-at-2 : tie.Need-add-flag-at-2
 add-flag-at-2 c = search needs
 
--- src/lib.rt:82:9
 flag-at-requires-2 : tie.Need-flag-at-requires-2
 flag-at-requires-2 c κs = search needs
 
--- src/lib.rt:83:9
 get-u32-requires : tie.Need-get-u32-requires
 get-u32-requires c κs = search needs
 
 cast-length : tie.Need-cast-length
 cast-length c = search needs
 
--- src/lib.rt:84:9
 put-requires : tie.Need-put-requires
 put-requires c κs = search needs
 
--- src/lib.rt:85:9
 put-requires-2 : tie.Need-put-requires-2
 put-requires-2 c κs = search needs
 
--- src/lib.rt:86:5
 put-requires-3 : tie.Need-put-requires-3
 put-requires-3 c κs = search needs
 
--- src/lib.rt:75:1
 same-length : tie.Need-same-length
 same-length c = search needs
 
--- src/lib.rt:75:1
 returns : tie.Need-returns
 returns c =
     puts-are (puts-both ((c .before .before .before .before .before .before .before .before .before .before .put .ensures)) (puts-both ((c .before .before .before .before .before .before .put2 .ensures)) ((c .before .before .put3 .ensures))))

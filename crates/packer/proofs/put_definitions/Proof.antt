@@ -11,9 +11,6 @@ use Rattle.packer.proofs.Writing.{puts-nothing, puts-both, puts-are}
 use Rattle.packer.proofs.Entries.{joined-more}
 use Rattle.packer.proofs.put_definitions.Statement.{statement}
 use Rattle.packer.proofs.put_definitions.Tie as tie
-use Rattle.packer.proofs.put_definitions.Reads as reads
-use Rattle.packer.proofs.put_definitions.Lts as lts
-use Rattle.packer.proofs.put_definition.Reads as put-definition-reads
 
 abbrev Inv-loop : tie.InvT-loop
 Inv-loop out₀ definitions n w₀ i₀ out w i =
@@ -22,24 +19,19 @@ Inv-loop out₀ definitions n w₀ i₀ out w i =
 abbrev μ-loop : tie.MeasureT-loop
 μ-loop out₀ definitions n w₀ i₀ out w i = n - i
 
--- src/lib.rt:97:5
 loop-holds : tie.Need-loop-holds Inv-loop μ-loop
 unfolding pieces
 loop-holds c = (omega arith, puts-nothing _ _ _ ((c .before .before .pre .1)))
 
--- src/lib.rt:98:9
 put-definition-requires : tie.Need-put-definition-requires Inv-loop μ-loop
 put-definition-requires c κs = (omega arith, record { few = omega arith; room = omega arith })
 
--- src/lib.rt:99:9
 add-i : tie.Need-add-i Inv-loop μ-loop
 add-i c = omega arith
 
--- src/lib.rt:97:5
 loop-less : tie.Need-loop-less Inv-loop μ-loop
 loop-less c = omega arith
 
--- src/lib.rt:97:5
 loop-again : tie.Need-loop-again Inv-loop μ-loop
 loop-again c = (
   omega arith,
@@ -50,7 +42,6 @@ loop-again c = (
 same-length : tie.Need-same-length Inv-loop μ-loop
 same-length c = ((c .before .loop .inv .1 .same-length))
 
--- src/lib.rt:90:1
 returns : tie.Need-returns Inv-loop μ-loop
 returns c = let e : (c .before .loop .i) ≡ (c .before .before .before .before .args .n) = omega arith in puts-are ((c .before .loop .inv .1)) (ap (λ k. joined (map definitionFields (map definitionOf (pieces definitionSize k ((c .before .before .before .before .args .definitions .now)))))) e) (ap (λ k. definitionWidth * k) e)
 

@@ -4,35 +4,25 @@ use Rattle.packer.proofs.Writing.{puts-both}
 use borrow.Author.Needs.{needs}
 use Rattle.packer.proofs.put_head.Statement.{statement}
 use Rattle.packer.proofs.put_head.Tie as tie
-use Rattle.packer.proofs.put_head.Reads as reads
-use Rattle.packer.proofs.put_head.Lts as lts
-use Rattle.packer.proofs.BitWriter.put.Reads as put-reads
 
--- src/lib.rt:142:9
 put-requires : tie.Need-put-requires
 put-requires c κs = search needs
 
--- src/lib.rt:143:9
 put-requires-2 : tie.Need-put-requires-2
 put-requires-2 c κs = search needs
 
--- src/lib.rt:144:9
 put-requires-3 : tie.Need-put-requires-3
 put-requires-3 c κs = search needs
 
--- src/lib.rt:145:9
 put-requires-4 : tie.Need-put-requires-4
 put-requires-4 c κs = search needs
 
--- src/lib.rt:146:5
 put-requires-5 : tie.Need-put-requires-5
 put-requires-5 c κs = search needs
 
--- src/lib.rt:133:1
 same-length : tie.Need-same-length
 same-length c = search needs
 
--- src/lib.rt:133:1
 returns : tie.Need-returns
 unfolding headOf
 returns c =

@@ -6,24 +6,16 @@ use Rattle.packer.proofs.Names.{name-fields}
 use borrow.Author.Needs.{needs}
 use Rattle.packer.proofs.put_name.Statement.{statement}
 use Rattle.packer.proofs.put_name.Tie as tie
-use Rattle.packer.proofs.put_name.Reads as reads
-use Rattle.packer.proofs.put_name.Lts as lts
-use Rattle.packer.proofs.BitWriter.put.Reads as put-reads
-use Rattle.packer.proofs.put_bytes.Reads as put-bytes-reads
 
--- src/lib.rt:170:9
 put-requires : tie.Need-put-requires
 put-requires c κs = search needs
 
--- src/lib.rt:171:5
 put-bytes-requires : tie.Need-put-bytes-requires
 put-bytes-requires c κs = search needs
 
--- src/lib.rt:165:1
 same-length : tie.Need-same-length
 same-length c = search needs
 
--- src/lib.rt:165:1
 returns : tie.Need-returns
 returns c =
     puts-are (puts-both ((c .before .before .before .before .before .before .put .ensures)) ((c .before .before .put-bytes .ensures))) (name-fields ((c .before .before .before .before .before .before .before .before .before .before .args .first)) ((c .before .before .before .before .before .before .before .before .before .before .args .n)) ((c .before .before .before .before .before .before .before .before .before .before .args .names .now)) (omega arith)) refl

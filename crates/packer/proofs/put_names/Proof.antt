@@ -13,10 +13,6 @@ use Rattle.packer.proofs.Writing.{puts-nothing, puts-both, puts-are}
 use Rattle.packer.proofs.Names.{name-sum, name-fits, name-more}
 use Rattle.packer.proofs.put_names.Statement.{statement}
 use Rattle.packer.proofs.put_names.Tie as tie
-use Rattle.packer.proofs.put_names.Reads as reads
-use Rattle.packer.proofs.put_names.Lts as lts
-use Rattle.packer.proofs.put_name.Reads as put-name-reads
-use Rattle.table.proofs.get_u16.Reads as get-u16-reads
 
 abbrev Inv-loop : tie.InvT-loop
 Inv-loop out₀ names categories n w₀ at₀ i₀ out w at i =
@@ -26,46 +22,36 @@ Inv-loop out₀ names categories n w₀ at₀ i₀ out w at i =
 abbrev μ-loop : tie.MeasureT-loop
 μ-loop out₀ names categories n w₀ at₀ i₀ out w at i = n - i
 
--- src/lib.rt:190:5
 loop-holds : tie.Need-loop-holds Inv-loop μ-loop
 unfolding lengthsIn pieces split
 loop-holds c = (omega arith, (refl, puts-nothing _ _ _ ((c .before .before .before .pre .1 .1))))
 
--- src/lib.rt:191:46
 mul-get-u16 : tie.Need-mul-get-u16 Inv-loop μ-loop
 mul-get-u16 c = omega arith
 
--- src/lib.rt:191:46
 add-get-u16 : tie.Need-add-get-u16 Inv-loop μ-loop
 add-get-u16 c = omega arith
 
--- src/lib.rt:191:19
 get-u16-requires : tie.Need-get-u16-requires Inv-loop μ-loop
 get-u16-requires c κs = search needs
 
--- src/lib.rt:191:19
 cast-len : tie.Need-cast-len Inv-loop μ-loop
 cast-len c = omega arith
 
--- src/lib.rt:192:9
 put-name-requires : tie.Need-put-name-requires Inv-loop μ-loop
 put-name-requires c κs =
     let f = (name-fits ((c .before .before .before .before .before .before .before .args .names .now)) ((c .before .before .before .before .before .before .before .args .categories .now)) ((c .before .before .before .before .before .before .before .args .n)) ((c .before .before .before .loop .i)) ((c .before .before .before .loop .at)) _ ((c .before .before .loop-test .taken)) ((c .before .before .before .before .before .before .before .pre .0)) ((c .before .get-u16 .ensures)) ((c .before .before .before .loop .inv .1 .0))) in
     (omega arith, record { few = omega arith; room = omega arith })
 
--- src/lib.rt:193:9
 add-at : tie.Need-add-at Inv-loop μ-loop
 add-at c = let f = (name-fits ((c .before .before .before .before .before .before .before .before .before .before .args .names .now)) ((c .before .before .before .before .before .before .before .before .before .before .args .categories .now)) ((c .before .before .before .before .before .before .before .before .before .before .args .n)) ((c .before .before .before .before .before .before .loop .i)) ((c .before .before .before .before .before .before .loop .at)) _ ((c .before .before .before .before .before .loop-test .taken)) ((c .before .before .before .before .before .before .before .before .before .before .pre .0)) ((c .before .before .before .before .get-u16 .ensures)) ((c .before .before .before .before .before .before .loop .inv .1 .0))) in omega arith
 
--- src/lib.rt:194:9
 add-i : tie.Need-add-i Inv-loop μ-loop
 add-i c = omega arith
 
--- src/lib.rt:190:5
 loop-less : tie.Need-loop-less Inv-loop μ-loop
 loop-less c = omega arith
 
--- src/lib.rt:190:5
 loop-again : tie.Need-loop-again Inv-loop μ-loop
 loop-again c = (
   omega arith,
@@ -76,11 +62,9 @@ loop-again c = (
   ),
 )
 
--- src/lib.rt:175:1
 same-length : tie.Need-same-length Inv-loop μ-loop
 same-length c = ((c .before .loop .inv .1 .1 .same-length))
 
--- src/lib.rt:175:1
 returns : tie.Need-returns Inv-loop μ-loop
 returns c =
     let e : (c .before .loop .i) ≡ (c .before .before .before .before .before .args .n) = omega arith in

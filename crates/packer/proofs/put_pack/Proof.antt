@@ -4,28 +4,19 @@ use Rattle.packer.proofs.Whole.{pack-whole}
 use borrow.Author.Needs.{needs}
 use Rattle.packer.proofs.put_pack.Statement.{statement}
 use Rattle.packer.proofs.put_pack.Tie as tie
-use Rattle.packer.proofs.put_pack.Reads as reads
-use Rattle.packer.proofs.put_pack.Lts as lts
-use Rattle.packer.proofs.BitWriter.put.Reads as put-reads
-use Rattle.packer.proofs.put_fields.Reads as put-fields-reads
 
--- src/lib.rt:322:9
 put-fields-requires : tie.Need-put-fields-requires
 put-fields-requires c κs = search needs
 
--- src/lib.rt:331:16
 sub-pad : tie.Need-sub-pad
 sub-pad c = search needs
 
--- src/lib.rt:332:5
 put-requires : tie.Need-put-requires
 put-requires c κs = search needs
 
--- src/lib.rt:309:1
 same-length : tie.Need-same-length
 same-length c = search needs
 
--- src/lib.rt:309:1
 returns : tie.Need-returns
 returns c = pack-whole _ _ ((c .before .before .before .before .before .before .before .put-fields .ensures)) refl ((c .before .before .put .ensures))
 

@@ -11,10 +11,6 @@ use Rattle.packer.proofs.Writing.{puts-nothing, puts-both, puts-are}
 use Rattle.packer.proofs.Entries.{number-more}
 use Rattle.packer.proofs.put_references.Statement.{statement}
 use Rattle.packer.proofs.put_references.Tie as tie
-use Rattle.packer.proofs.put_references.Reads as reads
-use Rattle.packer.proofs.put_references.Lts as lts
-use Rattle.packer.proofs.BitWriter.put.Reads as put-reads
-use Rattle.table.proofs.get_u16.Reads as get-u16-reads
 
 abbrev Inv-loop : tie.InvT-loop
 Inv-loop out₀ references first n w₀ i₀ out w i = (i ≤ n) × Puts out₀ w₀ (map (field numberWidth) (numbersFrom first i references)) (numberWidth * i) out w
@@ -22,40 +18,31 @@ Inv-loop out₀ references first n w₀ i₀ out w i = (i ≤ n) × Puts out₀ 
 abbrev μ-loop : tie.MeasureT-loop
 μ-loop out₀ references first n w₀ i₀ out w i = n - i
 
--- src/lib.rt:223:5
 loop-holds : tie.Need-loop-holds Inv-loop μ-loop
 unfolding numbersFrom pieces
 loop-holds c = (omega arith, puts-nothing _ _ _ ((c .before .before .pre .1)))
 
--- src/lib.rt:224:68
 add-get-u16 : tie.Need-add-get-u16 Inv-loop μ-loop
 add-get-u16 c = omega arith
 
--- src/lib.rt:224:49
 mul-get-u16 : tie.Need-mul-get-u16 Inv-loop μ-loop
 mul-get-u16 c = omega arith
 
--- src/lib.rt:224:22
 get-u16-requires : tie.Need-get-u16-requires Inv-loop μ-loop
 get-u16-requires c κs = search needs
 
--- src/lib.rt:224:22
 cast-number : tie.Need-cast-number Inv-loop μ-loop
 cast-number c = omega arith
 
--- src/lib.rt:225:9
 put-requires : tie.Need-put-requires Inv-loop μ-loop
 put-requires c κs = (omega arith, record { few = omega arith; room = omega arith })
 
--- src/lib.rt:226:9
 add-i : tie.Need-add-i Inv-loop μ-loop
 add-i c = omega arith
 
--- src/lib.rt:223:5
 loop-less : tie.Need-loop-less Inv-loop μ-loop
 loop-less c = omega arith
 
--- src/lib.rt:223:5
 loop-again : tie.Need-loop-again Inv-loop μ-loop
 loop-again c = (
   omega arith,
@@ -63,11 +50,9 @@ loop-again c = (
       (omega arith),
 )
 
--- src/lib.rt:210:1
 same-length : tie.Need-same-length Inv-loop μ-loop
 same-length c = ((c .before .loop .inv .1 .same-length))
 
--- src/lib.rt:210:1
 returns : tie.Need-returns Inv-loop μ-loop
 returns c =
     let e : (c .before .loop .i) ≡ (c .before .before .before .before .args .n) = omega arith in

@@ -8,37 +8,25 @@ use Rattle.packer.proofs.Answer.{apart, short, written}
 use borrow.Author.Needs.{needs}
 use Rattle.packer.proofs.write_pack.Statement.{statement}
 use Rattle.packer.proofs.write_pack.Tie as tie
-use Rattle.packer.proofs.write_pack.Reads as reads
-use Rattle.packer.proofs.write_pack.Lts as lts
-use Rattle.hold.proofs.reading_holds.Reads as reading-holds-reads
-use Rattle.packer.proofs.pack_length.Reads as pack-length-reads
-use Rattle.packer.proofs.put_pack.Reads as put-pack-reads
 
--- src/lib.rt:348:9
 reading-holds-requires : tie.Need-reading-holds-requires
 reading-holds-requires c κs = search needs
 
--- src/lib.rt:349:9
 returns : tie.Need-returns
 returns c = apart _ _ _ (sym ((c .before .reading-holds .ensures)) ∙ not-true _ ((c .if1 .taken)))
 
--- src/lib.rt:354:9
 pack-length-requires : tie.Need-pack-length-requires
 pack-length-requires c κs = limited _ _ (asked _ _ (passed _ _ ((c .before .reading-holds .ensures)) ((c .if1 .left))))
 
--- src/lib.rt:356:9
 returns-2 : tie.Need-returns-2
 returns-2 c = short _ _ _ (passed _ _ ((c .before .before .before .reading-holds .ensures)) ((c .before .before .if1 .left))) (omega arith)
 
--- src/lib.rt:361:5
 put-pack-requires : tie.Need-put-pack-requires
 put-pack-requires c κs = ((passed _ _ ((c .before .before .before .before .reading-holds .ensures)) ((c .before .before .before .if1 .left))), omega arith)
 
--- src/lib.rt:337:1
 same-length : tie.Need-same-length
 same-length c = search needs
 
--- src/lib.rt:337:1
 returns-3 : tie.Need-returns-3
 returns-3 c = written _ _ _ (passed _ _ ((c .before .before .before .before .before .before .before .reading-holds .ensures)) ((c .before .before .before .before .before .before .if1 .left))) _ _ ((c .before .before .before .before .before .pack-length .ensures)) (omega arith) ((c .before .before .put-pack .ensures))
 

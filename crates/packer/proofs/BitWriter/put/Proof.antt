@@ -9,15 +9,12 @@ use Rattle.packer.proofs.Bits.{mask-is, joined-up}
 use Rattle.packer.proofs.Writing.{Emits, emits-none, emits-more, emits-all}
 use Rattle.packer.proofs.BitWriter.put.Statement.{statement}
 use Rattle.packer.proofs.BitWriter.put.Tie as tie
-use Rattle.packer.proofs.BitWriter.put.Reads as reads
-use Rattle.packer.proofs.BitWriter.put.Lts as lts
-use Rattle.packer.proofs.wide.Reads as wide-reads
 
 abbrev Inv-loop : tie.InvT-loop
-Inv-loop out₀ width value one low held at₀ left₀ out at left = Emits out₀ at₀ left₀ held out at left
+Inv-loop out₀ width value one low kept held at₀ left₀ out at left = Emits out₀ at₀ left₀ held out at left
 
 abbrev μ-loop : tie.MeasureT-loop
-μ-loop out₀ width value one low held at₀ left₀ out at left = left
+μ-loop out₀ width value one low kept held at₀ left₀ out at left = left
 
 shl-low : tie.Need-shl-low Inv-loop μ-loop
 shl-low c = omega arith
