@@ -1,14 +1,14 @@
 -- The low bits of numbers: of a shifted number with a field behind it, and of what is left of a number above a place.
 -- Assumes nothing.
 use Prim.Native.Nat.{ℕ, zero, suc, _+_, _*_, _-_, _/_, _%_, _^_, _≤_, _<_}
-use native.Mathlib.Nat.{zero-add, suc-add, add-comm, mod-lt, lt-of-lt-of-le, one-mul}
+use native.Mathlib.Nat.{zero-add, suc-add, add-comm, mod-lt, one-mul}
 use native.Mathlib.Omega.{arith}
 use mathlib.Core.Path.{_≡_, refl, sym, ap, ap₂, _∙_}
-use mathlib.Core.List.{List, [], _∷_, _++_}
+use mathlib.Core.List.{_∷_, _++_}
 use lib.Dec.{lit<}
 use lib.Bits.{bitAnd, bitOr, and-mask, or-shifted}
-use lib.Pow.{pow-pos, pow-mono, shr-shr, shl-exact, field, mod-mod-pow, high, low}
-use Rattle.paper.specs.Pack.Fields.{byteWidth, bits}
+use lib.Pow.{pow-pos, shr-shr, shl-exact, field, mod-mod-pow, high, low}
+use Rattle.paper.specs.Pack.Fields.{bits}
 
 -- the bits from a place on, and those below it
 pub bits-split : (a b n : ℕ) → bits (a + b) n ≡ bits a (n / 2 ^ b) ++ bits b n
@@ -32,7 +32,6 @@ bits-mod (suc b) k n h =
 -- a number with a field behind it
 pub bits-behind : (a b m v : ℕ) → bits (a + b) (m * 2 ^ b + v % 2 ^ b) ≡ bits a m ++ bits b v
 bits-behind a b m v =
-    let n : ℕ = m * 2 ^ b + v % 2 ^ b in
     let small : v % 2 ^ b < 2 ^ b = mod-lt v (pow-pos b) in
     bits-split a b (m * 2 ^ b + v % 2 ^ b)
     ∙ ap₂ (λ x l. bits a x ++ l) (high m b small)

@@ -4,13 +4,12 @@ use Prim.Native.Nat.{ℕ, zero, suc, _+_, _*_, _-_, _≤_, _<_}
 use native.Mathlib.Nat.{mul-suc, mul-zero, zero-add, suc-add}
 use native.Mathlib.Numerals.{add-one}
 use native.Mathlib.Omega.{arith}
-use mathlib.Core.Path.{_≡_, refl, sym, ap, ap₂, _∙_}
+use mathlib.Core.Path.{_≡_, sym, ap, ap₂, _∙_}
 use mathlib.Core.List.{List, [], _∷_, _++_, map, append-nil}
 use lib.Dec.{eqb}
 use lib.ListN.{length, take, drop, getD, length-drop}
 use lib.Seq.{drop-drop, getD-take, getD-drop, take-suc}
 use Rattle.paper.specs.Lists.{joined, sum}
-use Rattle.paper.specs.CharDef.Reading.{Definition}
 use Rattle.paper.specs.Pack.Fields.{Field, field, flag, definitionFields}
 use Rattle.paper.specs.Tables.Layout.{definitionSize, referenceSize, invokeAt, groupAt, definitionOf, pieces}
 use Rattle.paper.specs.Tables.Lent.{num, got}
@@ -102,7 +101,6 @@ pub number-more : (w first i x : ℕ) (l : List ℕ) → referenceSize * (first 
 unfolding numbersFrom
 number-more w first i x l h e =
     let d : referenceSize * first + referenceSize * i ≡ referenceSize * (first + i) = omega arith in
-    let m : List ℕ = drop (referenceSize * first) l in
     let here : entry referenceSize (first + i) l ≡ entry referenceSize i (drop (referenceSize * first) l) =
     sym (ap (take referenceSize) (drop-drop (referenceSize * i) (referenceSize * first) l ∙ ap (λ k. drop k l) d)) in
     field-more w (numbersFrom first i l) (numbersFrom first (i + 1) l) x

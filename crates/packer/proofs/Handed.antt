@@ -1,21 +1,22 @@
 -- Over tables that hold together, what the loops put is the reading's: its fields, as many as its counts say, and the length of its pack.
 -- Assumes nothing.
-use Prim.Native.Nat.{ℕ, _+_, _*_, _/_, _≤_}
+use Prim.Native.Nat.{ℕ, _+_, _*_, _/_}
 use native.Mathlib.Omega.{arith}
-use mathlib.Core.Path.{_≡_, refl, sym, ap, ap₂, _∙_}
-use mathlib.Core.List.{List, [], _∷_, _++_, map}
+use mathlib.Core.Path.{_≡_, sym, ap, ap₂, _∙_}
+use mathlib.Core.List.{List, _++_, map}
 use lib.Dec.{T}
 use lib.ListN.{length}
 use Rattle.paper.specs.Lists.{joined, sum}
 use Rattle.paper.specs.CharDef.Reading.{Reading, nameBytes, references}
-use Rattle.paper.specs.Pack.Fields.{nameLengthWidth, byteWidth, numberWidth, headWidth, definitionWidth, rangeWidth, head, nameFields, definitionFields, rangeFields, packFields, packBits, packBytes, inBytes}
-use Rattle.paper.specs.Tables.Layout.{Tables, countsOf, definitionSize, rangeSlotSize, referenceSize, definitionOf, slotOf, pieces, split, ranging}
+use Rattle.paper.specs.Pack.Fields.{nameLengthWidth, byteWidth, numberWidth, headWidth, definitionWidth, rangeWidth}
+use Rattle.paper.specs.Pack.Fields.{head, nameFields, definitionFields, rangeFields, packFields, packBits, packBytes}
+use Rattle.paper.specs.Tables.Layout.{Tables, countsOf, definitionSize, rangeSlotSize, definitionOf, slotOf, pieces, split, ranging}
 use Rattle.paper.specs.Computed.HandedIn.{nameSlotsIn, namesIn, slotsIn, numbersIn, decoded, holds}
 use Rattle.paper.specs.declared.Counts.{Counts}
 use Rattle.paper.proofs.Pack.Size.{packBits-length, inBytes-length}
-use Rattle.paper.proofs.Tables.Trip.{Enough, Parts, parts, names-lens, ranges-counts, counts-are}
+use Rattle.paper.proofs.Tables.Trip.{Enough, parts, names-lens, ranges-counts, counts-are}
 use Rattle.packer.specs.declared.BitWriter.{BitWriter}
-use Rattle.packer.specs.Writer.{lengthsIn, countsIn, numbersFrom, headOf, packWidth, packLength, Limited, start, Puts}
+use Rattle.packer.specs.Writer.{lengthsIn, countsIn, numbersFrom, allNumbers, headOf, packWidth, packLength, Limited, start, Puts}
 use Rattle.packer.proofs.Writing.{puts-both, puts-are}
 
 -- what the loops ask
@@ -50,7 +51,7 @@ fields-are : (t : Tables) (n : Counts) → T (holds t n)
     → headOf n
     ++ (joined (map nameFields (split (lengthsIn (n .categories) (t .categories)) (t .names)))
     ++ (joined (map definitionFields (map definitionOf (pieces definitionSize (n .definitions) (t .definitions))))
-    ++ joined (map rangeFields (ranging (map slotOf (pieces rangeSlotSize (n .ranges) (t .ranges))) (numbersFrom 0 (sum (countsIn (n .ranges) (t .ranges))) (t .references))))))
+    ++ joined (map rangeFields (ranging (map slotOf (pieces rangeSlotSize (n .ranges) (t .ranges))) (allNumbers (n .ranges) (t .ranges) (t .references))))))
     ≡ packFields (decoded t n)
 unfolding packFields decoded namesIn nameSlotsIn slotsIn numbersIn lengthsIn numbersFrom
 fields-are t n u =
@@ -65,9 +66,11 @@ fields-are t n u =
 -- head, names, definitions and ranges, put one behind another
 pub fields-put : (t : Tables) (n : Counts) → T (holds t n) → {lent a b c after : List ℕ} {u v w r : BitWriter}
     → Puts lent start (headOf n) headWidth a u
-    → Puts a u (joined (map nameFields (split (lengthsIn (n .categories) (t .categories)) (t .names)))) (nameLengthWidth * n .categories + byteWidth * sum (lengthsIn (n .categories) (t .categories))) b v
+    → Puts a u (joined (map nameFields (split (lengthsIn (n .categories) (t .categories)) (t .names))))
+    (nameLengthWidth * n .categories + byteWidth * sum (lengthsIn (n .categories) (t .categories))) b v
     → Puts b v (joined (map definitionFields (map definitionOf (pieces definitionSize (n .definitions) (t .definitions))))) (definitionWidth * n .definitions) c w
-    → Puts c w (joined (map rangeFields (ranging (map slotOf (pieces rangeSlotSize (n .ranges) (t .ranges))) (numbersFrom 0 (sum (countsIn (n .ranges) (t .ranges))) (t .references))))) (rangeWidth * n .ranges + numberWidth * sum (countsIn (n .ranges) (t .ranges))) after r
+    → Puts c w (joined (map rangeFields (ranging (map slotOf (pieces rangeSlotSize (n .ranges) (t .ranges))) (allNumbers (n .ranges) (t .ranges) (t .references)))))
+    (rangeWidth * n .ranges + numberWidth * sum (countsIn (n .ranges) (t .ranges))) after r
     → Puts lent start (packFields (decoded t n)) (packWidth n) after r
 fields-put t n h x y z k =
     let a = asked t n h in

@@ -1,16 +1,15 @@
 -- A turn of the loop over the names: one more slot, and the bytes behind those of the names so far.
 -- Assumes nothing.
-use Prim.Native.Nat.{ℕ, zero, _+_, _*_, _≤_, _<_}
-use native.Mathlib.Nat.{zero-add}
+use Prim.Native.Nat.{ℕ, _+_, _*_, _≤_, _<_}
 use native.Mathlib.Omega.{arith}
 use mathlib.Core.Path.{_≡_, refl, sym, ap, ap₂, _∙_}
 use mathlib.Core.List.{List, [], _∷_, _++_, map}
 use lib.ListN.{length, take, drop, length-drop}
 use lib.Seq.{drop-drop, length-take-le}
 use Rattle.paper.specs.Lists.{joined, sum}
-use Rattle.paper.specs.Pack.Fields.{Field, field, nameLengthWidth, byteWidth, nameFields}
-use Rattle.paper.specs.Tables.Layout.{NameSlot, nameSlotSize, nameLenAt, nameSlotOf, split}
-use Rattle.paper.specs.Tables.Lent.{num, got}
+use Rattle.paper.specs.Pack.Fields.{field, nameLengthWidth, byteWidth, nameFields}
+use Rattle.paper.specs.Tables.Layout.{nameSlotSize, nameLenAt, nameSlotOf, split}
+use Rattle.paper.specs.Tables.Lent.{got}
 use Rattle.hold.proofs.Turn.{entry}
 use Rattle.hold.proofs.Entries.{field-got, inside}
 use Rattle.packer.specs.Writer.{lengthsIn}
@@ -29,7 +28,7 @@ split-snoc (m ∷ ns) n l =
     ap (λ ls. take m l ∷ ls) (split-snoc ns n (drop m l)) ∙ ap (λ k. take m l ∷ (split ns (drop m l) ++ (take n k ∷ []))) (drop-drop (sum ns) m l)
 
 module _
-    (names categories : List ℕ)
+    (categories : List ℕ)
     (n i at len : ℕ)
     (lt : i < n)
     (long : nameSlotSize * n ≤ length categories)
@@ -47,13 +46,15 @@ module _
     unfolding lengthsIn
     name-fits =
         let a : at + len ≡ sum (lengthsIn (i + 1) categories) = name-sum in
-        let b : sum (lengthsIn (i + 1) categories) ≤ sum (lengthsIn n categories) = amounts-below (λ p. p .len) nameSlotOf nameSlotSize categories (i + 1) n (omega arith) in
+        let b : sum (lengthsIn (i + 1) categories) ≤ sum (lengthsIn n categories) =
+        amounts-below (λ p. p .len) nameSlotOf nameSlotSize categories (i + 1) n (omega arith) in
         omega arith
 
-    pub name-more : joined (map nameFields (split (lengthsIn i categories) names)) ++ nameFields (take len (drop at names))
+    pub name-more : (names : List ℕ)
+        → joined (map nameFields (split (lengthsIn i categories) names)) ++ nameFields (take len (drop at names))
         ≡ joined (map nameFields (split (lengthsIn (i + 1) categories) names))
     unfolding lengthsIn
-    name-more =
+    name-more names =
         sym (ap (λ ns. joined (map nameFields (split ns names))) (amounts-more (λ p. p .len) nameSlotOf nameSlotSize categories i)
         ∙ ap (λ ls. joined (map nameFields ls)) (split-snoc (lengthsIn i categories) (nameSlotOf (entry nameSlotSize i categories) .len) names)
         ∙ joined-snoc nameFields (split (lengthsIn i categories) names) _

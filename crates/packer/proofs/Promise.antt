@@ -4,7 +4,7 @@ use Prim.Native.Nat.{ℕ, _≤_, _<_}
 use native.Mathlib.Omega.{arith}
 use mathlib.Core.Path.{_≡_, refl, sym, ap, _∙_, subst}
 use mathlib.Core.Logic.{_↔_}
-use mathlib.Core.Bool.{Bool, true, false, cond}
+use mathlib.Core.Bool.{Bool, true, false}
 use mathlib.Core.List.{List, _++_}
 use mathlib.Core.Option.{Option, none, some}
 use lib.Dec.{T, ltb}
@@ -17,7 +17,7 @@ use Rattle.paper.specs.Lists.{all}
 use Rattle.paper.specs.Numbers.Bytes.{isByte}
 use Rattle.paper.specs.CharDef.Reading.{Reading, accepted}
 use Rattle.paper.specs.Pack.Fields.{packBytes}
-use Rattle.paper.specs.Rows.Build.{Built, built, refusedBy, writeRoomShort, packWritten}
+use Rattle.paper.specs.Rows.Build.{Built, built, refusedBy, packWritten}
 use Rattle.paper.specs.Tables.Layout.{Tables}
 use Rattle.paper.specs.Tables.HandedIn.{HoldTogether, OfBytes}
 use Rattle.paper.specs.Computed.HandedIn.{handedIn}
@@ -32,6 +32,7 @@ use Rattle.paper.proofs.Tables.Trip.{handed-back}
 use Rattle.packer.specs.declared.Written.{Written}
 use Rattle.packer.specs.declared.Written.the-variants.{Length, Refused}
 use Rattle.packer.specs.Write.{packOf, given, leaves, WritesPack}
+use Rattle.packer.proofs.Answer.{room-is}
 
 -- ---- NOTHING IS LEFT OPEN: two outcomes that the promise allows coincide, in the answer and in the memory
 
@@ -48,12 +49,9 @@ roomRefused = Refused (record { number = packRoomShort; place = 0 })
 abbrev pub apartRefused : Written
 apartRefused = Refused (record { number = tablesApart; place = 0 })
 
-answer-is : (q : Reading) (m : ℕ) (b : Bool) → ltb m (length (packBytes q)) ≡ b → packWritten (some q) m ≡ cond b (refusedBy packRoomShort) built
-unfolding packWritten writeRoomShort
-answer-is q m b e = ap (λ x. cond x (refusedBy packRoomShort) built) e
-
 module _ {t : Tables} {n : Counts} {lent after : List ℕ} {r : Written} (p : WritesPack t n lent after r) where
-  by-case : (o : Option Reading) (b : Built) → handedIn t n ≡ o → packWritten o (length lent) ≡ b → (r ≡ given b (packOf o)) × (after ≡ leaves b (packOf o) lent)
+  by-case : (o : Option Reading) (b : Built) → handedIn t n ≡ o → packWritten o (length lent) ≡ b
+      → (r ≡ given b (packOf o)) × (after ≡ leaves b (packOf o) lent)
   by-case o b eo eb =
       let e : packWritten (handedIn t n) (length lent) ≡ b = ap (λ x. packWritten x (length lent)) eo ∙ eb in
       (p .answer ∙ rw (e, eo), p .memory ∙ rw (e, eo))
@@ -64,11 +62,11 @@ module _ {t : Tables} {n : Counts} {lent after : List ℕ} {r : Written} (p : Wr
 
     -- the room is long enough: the pack's length, the pack's bytes, and what lies behind them as it was
     pub room-enough : length (packBytes q) ≤ length lent → (r ≡ Length (length (packBytes q))) × (after ≡ packBytes q ++ drop (length (packBytes q)) lent)
-    room-enough k = by-case (some q) built handed (answer-is q (length lent) false (le-ltb (length lent) (length (packBytes q)) k))
+    room-enough k = by-case (some q) built handed (room-is q (length lent) false (le-ltb (length lent) (length (packBytes q)) k))
 
     -- it is not: 22, and nothing is changed
     pub room-short : length lent < length (packBytes q) → (r ≡ roomRefused) × (after ≡ lent)
-    room-short k = by-case (some q) (refusedBy packRoomShort) handed (answer-is q (length lent) true (lt-ltb (length lent) (length (packBytes q)) k))
+    room-short k = by-case (some q) (refusedBy packRoomShort) handed (room-is q (length lent) true (lt-ltb (length lent) (length (packBytes q)) k))
 
     -- "No pack exceeds 40,519 bytes": in such a room every pack is written
     pub always-written : maxPackBytes ≤ length lent → r ≡ Length (length (packBytes q))

@@ -15,7 +15,7 @@ use Rattle.paper.proofs.Lists.Facts.{map-append}
 use Rattle.paper.proofs.Tables.Laws.{pieces-length}
 use Rattle.hold.proofs.Turn.{entry}
 use Rattle.hold.proofs.Entries.{first-got, field-got, inside}
-use Rattle.packer.specs.Writer.{countsIn, numbersFrom}
+use Rattle.packer.specs.Writer.{countsIn, numbersFrom, allNumbers}
 use Rattle.packer.proofs.Entries.{pieces-more, amounts-sum, amounts-below, joined-snoc}
 
 -- a part of the references
@@ -37,19 +37,20 @@ numbers-part total k i l h = part-numbers total k i l h
 
 numbers-count : (first n : ℕ) (l : List ℕ) → length (numbersFrom first n l) ≡ n
 unfolding numbersFrom
-numbers-count first n l = length-map (pieces referenceSize n (drop (referenceSize * first) l)) (num referenceSize 0) ∙ pieces-length referenceSize n (drop (referenceSize * first) l)
+numbers-count first n l =
+    length-map (pieces referenceSize n (drop (referenceSize * first) l)) (num referenceSize 0) ∙ pieces-length referenceSize n (drop (referenceSize * first) l)
+
+-- the range of a slot, over the references from its own on
+rangeOf : RangeSlot → List ℕ → Range
+rangeOf r l = record { lower = r .lower; upper = r .upper; categories = take (r .count) l }
 
 ranging-snoc : (rs : List RangeSlot) (r : RangeSlot) (l : List ℕ)
-    → ranging (rs ++ (r ∷ [])) l
-    ≡ ranging rs l ++ (record { lower = r .lower; upper = r .upper; categories = take (r .count) (drop (sum (map (λ s. s .count) rs)) l) } ∷ [])
-unfolding ranging
+    → ranging (rs ++ (r ∷ [])) l ≡ ranging rs l ++ (rangeOf r (drop (sum (map (λ s. s .count) rs)) l) ∷ [])
+unfolding ranging rangeOf
 ranging-snoc [] r l = refl
 ranging-snoc (q ∷ rs) r l =
-    let first : Range = record { lower = q .lower; upper = q .upper; categories = take (q .count) l } in
-    ap (λ gs. record { lower = q .lower; upper = q .upper; categories = take (q .count) l } ∷ gs) (ranging-snoc rs r (drop (q .count) l))
-    ∙ ap (λ m. record { lower = q .lower; upper = q .upper; categories = take (q .count) l }
-    ∷ (ranging rs (drop (q .count) l) ++ (record { lower = r .lower; upper = r .upper; categories = take (r .count) m } ∷ [])))
-    (drop-drop (sum (map (λ s. s .count) rs)) (q .count) l)
+    ap (λ gs. rangeOf q l ∷ gs) (ranging-snoc rs r (drop (q .count) l))
+    ∙ ap (λ m. rangeOf q l ∷ (ranging rs (drop (q .count) l) ++ (rangeOf r m ∷ []))) (drop-drop (sum (map (λ s. s .count) rs)) (q .count) l)
 
 range-fields : (lower upper count : ℕ) (cs : List ℕ) → length cs ≡ count
     → (field boundWidth lower ∷ field boundWidth upper ∷ field countWidth count ∷ []) ++ map (field numberWidth) cs
@@ -57,26 +58,18 @@ range-fields : (lower upper count : ℕ) (cs : List ℕ) → length cs ≡ count
 range-fields lower upper count cs e = ap (λ k. field boundWidth lower ∷ field boundWidth upper ∷ field countWidth k ∷ map (field numberWidth) cs) (sym e)
 
 module _
-    (ranges references : List ℕ)
-    (n i used lower upper count : ℕ)
+    (ranges : List ℕ)
+    (n i used count : ℕ)
     (lt : i < n)
     (long : rangeSlotSize * n ≤ length ranges)
-    (el : lower ≡ got 2 (rangeSlotSize * i) ranges)
-    (eu : upper ≡ got 2 (rangeSlotSize * i + upperAt) ranges)
-    (ec : count ≡ got 2 (rangeSlotSize * i + countAt) ranges)
+    (e : count ≡ got 2 (rangeSlotSize * i + countAt) ranges)
     (s : used ≡ sum (countsIn i ranges))
   where
     there : rangeSlotSize * i + rangeSlotSize ≤ length ranges
     there = inside rangeSlotSize i n ranges lt long
 
     count-is : count ≡ slotOf (entry rangeSlotSize i ranges) .count
-    count-is = ec ∙ field-got 2 countAt rangeSlotSize i ranges (omega arith) there
-
-    lower-is : lower ≡ slotOf (entry rangeSlotSize i ranges) .lower
-    lower-is = el ∙ first-got 2 rangeSlotSize i ranges (omega arith) there
-
-    upper-is : upper ≡ slotOf (entry rangeSlotSize i ranges) .upper
-    upper-is = eu ∙ field-got 2 upperAt rangeSlotSize i ranges (omega arith) there
+    count-is = e ∙ field-got 2 countAt rangeSlotSize i ranges (omega arith) there
 
     pub range-sum : used + count ≡ sum (countsIn (i + 1) ranges)
     unfolding countsIn
@@ -86,36 +79,41 @@ module _
     unfolding countsIn
     range-fits =
         let a : used + count ≡ sum (countsIn (i + 1) ranges) = range-sum in
-        let b : sum (countsIn (i + 1) ranges) ≤ sum (countsIn n ranges) = amounts-below (λ r. r .count) slotOf rangeSlotSize ranges (i + 1) n (omega arith) in
+        let b : sum (countsIn (i + 1) ranges) ≤ sum (countsIn n ranges) =
+        amounts-below (λ r. r .count) slotOf rangeSlotSize ranges (i + 1) n (omega arith) in
         omega arith
 
-    -- the range of slot i
-    this : Range
-    this = record { lower = lower; upper = upper; categories = numbersFrom used count references }
-
-    this-is : record { lower = slotOf (entry rangeSlotSize i ranges) .lower; upper = slotOf (entry rangeSlotSize i ranges) .upper; categories = take (slotOf (entry rangeSlotSize i ranges) .count) (drop (sum (countsIn i ranges)) (numbersFrom 0 (sum (countsIn n ranges)) references)) } ≡ this
-    unfolding this
-    this-is =
-        let part : take (slotOf (entry rangeSlotSize i ranges) .count) (drop (sum (countsIn i ranges)) (numbersFrom 0 (sum (countsIn n ranges)) references)) ≡ numbersFrom used count references =
-        ap₂ (λ a b. take a (drop b (numbersFrom 0 (sum (countsIn n ranges)) references))) (sym count-is) (sym s)
-        ∙ numbers-part (sum (countsIn n ranges)) count used references range-fits in
-        same-range _ _ _ _ _ _ (sym lower-is) (sym upper-is) part
+    module _
+        (references : List ℕ)
+        (lower upper : ℕ)
+        (el : lower ≡ got 2 (rangeSlotSize * i) ranges)
+        (eu : upper ≡ got 2 (rangeSlotSize * i + upperAt) ranges)
       where
-        same-range : (a b : ℕ) (c : List ℕ) (a′ b′ : ℕ) (c′ : List ℕ) → a ≡ a′ → b ≡ b′ → c ≡ c′
-            → _≡_ {A = Range} (record { lower = a; upper = b; categories = c }) (record { lower = a′; upper = b′; categories = c′ })
-        same-range a b c a′ b′ c′ p q r = rw (p, q, r)
+        so-far : List RangeSlot → List Field
+        so-far rs = joined (map rangeFields (ranging rs (allNumbers n ranges references)))
 
-    pub range-more : joined (map rangeFields (ranging (map slotOf (pieces rangeSlotSize i ranges)) (numbersFrom 0 (sum (countsIn n ranges)) references)))
-        ++ ((field boundWidth lower ∷ field boundWidth upper ∷ field countWidth count ∷ []) ++ map (field numberWidth) (numbersFrom used count references))
-        ≡ joined (map rangeFields (ranging (map slotOf (pieces rangeSlotSize (i + 1) ranges)) (numbersFrom 0 (sum (countsIn n ranges)) references)))
-    unfolding countsIn this
-    range-more =
-        let N : List ℕ = numbersFrom 0 (sum (countsIn n ranges)) references in
-        let before : List RangeSlot = map slotOf (pieces rangeSlotSize i ranges) in
-        sym (ap (λ ps. joined (map rangeFields (ranging (map slotOf ps) (numbersFrom 0 (sum (countsIn n ranges)) references)))) (pieces-more rangeSlotSize i ranges)
-        ∙ ap (λ rs. joined (map rangeFields (ranging rs (numbersFrom 0 (sum (countsIn n ranges)) references)))) (map-append slotOf (pieces rangeSlotSize i ranges) (entry rangeSlotSize i ranges ∷ []))
-        ∙ ap (λ gs. joined (map rangeFields gs)) (ranging-snoc (map slotOf (pieces rangeSlotSize i ranges)) (slotOf (entry rangeSlotSize i ranges)) (numbersFrom 0 (sum (countsIn n ranges)) references))
-        ∙ joined-snoc rangeFields (ranging (map slotOf (pieces rangeSlotSize i ranges)) (numbersFrom 0 (sum (countsIn n ranges)) references)) _
-        ∙ ap (λ g. joined (map rangeFields (ranging (map slotOf (pieces rangeSlotSize i ranges)) (numbersFrom 0 (sum (countsIn n ranges)) references))) ++ rangeFields g) this-is
-        ∙ ap (λ l. joined (map rangeFields (ranging (map slotOf (pieces rangeSlotSize i ranges)) (numbersFrom 0 (sum (countsIn n ranges)) references))) ++ l)
-        (sym (range-fields lower upper count (numbersFrom used count references) (numbers-count used count references))))
+        this-is : rangeOf (slotOf (entry rangeSlotSize i ranges)) (drop (sum (countsIn i ranges)) (allNumbers n ranges references))
+            ≡ record { lower = lower; upper = upper; categories = numbersFrom used count references }
+        unfolding rangeOf
+        this-is =
+            same-range (el ∙ first-got 2 rangeSlotSize i ranges (omega arith) there) (eu ∙ field-got 2 upperAt rangeSlotSize i ranges (omega arith) there)
+            (ap₂ (λ a b. take a (drop b (allNumbers n ranges references))) (sym count-is) (sym s)
+            ∙ numbers-part (sum (countsIn n ranges)) count used references range-fits)
+          where
+            same-range : {a b : ℕ} {c d : List ℕ} → lower ≡ a → upper ≡ b → c ≡ d
+                → _≡_ {A = Range} (record { lower = a; upper = b; categories = c }) (record { lower = lower; upper = upper; categories = d })
+            same-range p q r = rw (p, q, r)
+
+        pub range-more : joined (map rangeFields (ranging (map slotOf (pieces rangeSlotSize i ranges)) (allNumbers n ranges references)))
+            ++ ((field boundWidth lower ∷ field boundWidth upper ∷ field countWidth count ∷ []) ++ map (field numberWidth) (numbersFrom used count references))
+            ≡ joined (map rangeFields (ranging (map slotOf (pieces rangeSlotSize (i + 1) ranges)) (allNumbers n ranges references)))
+        unfolding countsIn so-far
+        range-more =
+            let slot : RangeSlot = slotOf (entry rangeSlotSize i ranges) in
+            let slots : List RangeSlot = map slotOf (pieces rangeSlotSize i ranges) in
+            sym (ap (λ ps. so-far (map slotOf ps)) (pieces-more rangeSlotSize i ranges)
+            ∙ ap so-far (map-append slotOf (pieces rangeSlotSize i ranges) (entry rangeSlotSize i ranges ∷ []))
+            ∙ ap (λ gs. joined (map rangeFields gs)) (ranging-snoc slots slot (allNumbers n ranges references))
+            ∙ joined-snoc rangeFields (ranging slots (allNumbers n ranges references)) _
+            ∙ ap (λ l. so-far slots ++ l)
+            (ap rangeFields this-is ∙ sym (range-fields lower upper count (numbersFrom used count references) (numbers-count used count references))))

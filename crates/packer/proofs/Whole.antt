@@ -1,18 +1,18 @@
 -- The pack is whole: its fields and zero bits up to the end of the last byte are bytes that all went to memory, and they are the paper's.
 -- Assumes nothing.
-use Prim.Native.Nat.{ℕ, zero, suc, _+_, _*_, _-_, _/_, _%_, _^_, _≤_, _<_}
+use Prim.Native.Nat.{ℕ, zero, suc, _+_, _-_, _/_, _%_, _^_, _<_}
 use native.Mathlib.Nat.{div-eq-of-lt}
 use native.Mathlib.Omega.{arith}
-use mathlib.Core.Path.{_≡_, refl, sym, ap, ap₂, _∙_, subst}
-use mathlib.Core.Bool.{Bool, true}
+use mathlib.Core.Path.{_≡_, sym, ap, _∙_}
 use mathlib.Core.List.{List, [], _∷_, _++_, append-nil}
 use lib.Dec.{T, ltb, eqb}
-use lib.ListN.{length, take, drop}
+use lib.ListN.{length, drop}
 use lib.Pow.{pow-pos}
 use mir.Facts.{yes-and, yes-ltb, yes-eqb}
 use Rattle.paper.specs.Lists.{all}
+use Rattle.paper.specs.Numbers.Bytes.{isByte}
 use Rattle.paper.specs.CharDef.Reading.{Reading}
-use Rattle.paper.specs.Pack.Fields.{byteWidth, Field, field, bits, spell, bitsOf, inBytes, packFields, packBits, packBytes}
+use Rattle.paper.specs.Pack.Fields.{byteWidth, field, bits, bitsOf, inBytes, packFields, packBits, packBytes}
 use Rattle.paper.specs.Computed.ReadPack.{isPadding}
 use Rattle.paper.proofs.Pack.Bits.{spell-append, inBytes-unpack, inBytes-pad, unpack-length}
 use Rattle.paper.proofs.Pack.Size.{bits-length}
@@ -32,7 +32,7 @@ pads w h =
     yes-and (ltb (length (bits w 0)) byteWidth) (all (eqb 0) (bits w 0)) (yes-ltb k) (zero-bits w)
 
 -- where no bit waits, bits with padding behind them are the bytes that went to memory
-whole-is : (s : List ℕ) (pad : ℕ) (whole : List ℕ) → pad < byteWidth → T (all Rattle.paper.specs.Numbers.Bytes.isByte whole) → s ++ bits pad 0 ≡ bitsOf whole → inBytes s ≡ whole
+whole-is : (s : List ℕ) (pad : ℕ) (whole : List ℕ) → pad < byteWidth → T (all isByte whole) → s ++ bits pad 0 ≡ bitsOf whole → inBytes s ≡ whole
 whole-is s pad whole few b e =
     let even : length (s ++ bits pad 0) % byteWidth ≡ 0 = ap (λ l. length l % byteWidth) e ∙ unpack-length whole in
     sym (inBytes-pad s (bits pad 0) (pads pad few) even) ∙ ap inBytes e ∙ inBytes-unpack whole b

@@ -1,17 +1,14 @@
 -- Fields that are put one behind another: putting some and then others is putting both; a byte that is whole goes to memory.
 -- Assumes nothing.
-use Prim.Native.Nat.{ℕ, zero, suc, _+_, _*_, _-_, _/_, _%_, _^_, _≤_, _<_}
-use native.Mathlib.Nat.{zero-add, suc-add, add-comm, mod-lt, lt-of-lt-of-le}
+use Prim.Native.Nat.{ℕ, _+_, _*_, _-_, _/_, _%_, _^_, _≤_, _<_}
 use native.Mathlib.Numerals.{add-one}
 use native.Mathlib.Omega.{arith}
 use mathlib.Core.Bool.{true}
 use mathlib.Core.Path.{_≡_, refl, sym, ap, ap₂, _∙_, subst}
-use mathlib.Core.List.{List, [], _∷_, _++_, append-assoc, append-nil, map}
-use lib.Dec.{T, ltb}
-use lib.ListN.{length, take, drop, set, length-append, length-take, length-drop, take-append-drop}
+use mathlib.Core.List.{List, [], _∷_, _++_, append-assoc, append-nil}
+use lib.ListN.{length, take, drop, set, length-append, length-drop, take-append-drop}
 use lib.Seq.{take-at, drop-at, drop-drop, set-split, length-take-le}
 use mir.Facts.{yes-and, yes-ltb}
-use Rattle.paper.specs.Lists.{all, joined}
 use Rattle.paper.specs.Numbers.Bytes.{isByte}
 use Rattle.paper.specs.Pack.Fields.{byteWidth, Field, field, bits, spell, bitsOf}
 use Rattle.paper.proofs.Lists.Facts.{all-append, joined-map}
@@ -105,7 +102,6 @@ field-waits l w width value h =
 byte-goes : (l : List ℕ) (at k held : ℕ) → at < length l
     → Writes l (writer at (byteWidth + k) held) [] (set l at (held / 2 ^ k % 256)) (writer (at + 1) k held)
 byte-goes l at k held h =
-    let b : ℕ = held / 2 ^ k % 256 in
     record {
       whole = held / 2 ^ k % 256 ∷ [];
       are-bytes = yes-and (isByte (held / 2 ^ k % 256)) true (yes-ltb (small (held / 2 ^ k))) tt;

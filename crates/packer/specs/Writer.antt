@@ -6,9 +6,10 @@ use mathlib.Core.List.{List, [], _∷_, _++_, map}
 use lib.Dec.{T}
 use lib.ListN.{length, take, drop}
 use Rattle.paper.specs.Sizes.{maxCategories, maxNameBytes, maxCategoryLines, maxRanges, maxReferences}
-use Rattle.paper.specs.Lists.{all}
+use Rattle.paper.specs.Lists.{all, sum}
 use Rattle.paper.specs.Numbers.Bytes.{isByte}
-use Rattle.paper.specs.Pack.Fields.{version, versionWidth, categoriesWidth, linesWidth, rangesWidth, referencesWidth, nameLengthWidth, byteWidth, numberWidth, headWidth, definitionWidth, rangeWidth, Field, field, bits, spell, bitsOf}
+use Rattle.paper.specs.Pack.Fields.{version, versionWidth, categoriesWidth, linesWidth, rangesWidth, referencesWidth, nameLengthWidth}
+use Rattle.paper.specs.Pack.Fields.{byteWidth, numberWidth, headWidth, definitionWidth, rangeWidth, Field, field, bits, spell, bitsOf}
 use Rattle.paper.specs.Tables.Layout.{nameSlotSize, rangeSlotSize, referenceSize, nameSlotOf, slotOf, pieces}
 use Rattle.paper.specs.Tables.Lent.{num}
 use Rattle.paper.specs.declared.Counts.{Counts}
@@ -57,6 +58,10 @@ countsIn n ranges = map (λ r. r .count) (map slotOf (pieces rangeSlotSize n ran
 -- the first n references from a place on
 unfoldable pub numbersFrom : ℕ → ℕ → List ℕ → List ℕ
 numbersFrom first n references = map (num referenceSize 0) (pieces referenceSize n (drop (referenceSize * first) references))
+
+-- the references that the first n ranges have in all
+abbrev pub allNumbers : ℕ → List ℕ → List ℕ → List ℕ
+allNumbers n ranges references = numbersFrom 0 (sum (countsIn n ranges)) references
 
 -- the head of a pack with these counts
 unfoldable pub headOf : Counts → List Field

@@ -21,7 +21,7 @@ ghost use Rattle.paper.specs.Lists.{joined, sum};
 ghost use Rattle.paper.specs.Pack.Fields.{field, flag, byteWidth, nameLengthWidth, lengthWidth, boundWidth, countWidth, numberWidth, headWidth, definitionWidth, rangeWidth, nameFields, definitionFields, rangeFields, packFields, packBytes};
 ghost use Rattle.paper.specs.Tables.Layout.{nameSlotSize, definitionSize, rangeSlotSize, referenceSize, definitionOf, slotOf, pieces, split, ranging};
 ghost use Rattle.paper.specs.Computed.HandedIn.{decoded, holds};
-ghost use Rattle.packer.specs.Writer.{Room, Puts, lengthsIn, countsIn, numbersFrom, headOf, packWidth, packLength, Limited, start};
+ghost use Rattle.packer.specs.Writer.{Room, Puts, lengthsIn, countsIn, numbersFrom, allNumbers, headOf, packWidth, packLength, Limited, start};
 ghost use Rattle.packer.specs.Write.{WritesPack};
 
 // The widths of fields in bits, as `Pack.Fields` has them.
@@ -261,7 +261,7 @@ fn put_ranges(
     requires { ⌜ rangeSlotSize * n ≤ length (now ranges) ⌝ }
     requires { ⌜ referenceSize * sum (countsIn n (now ranges)) ≤ length (now references) ⌝ }
     requires { ⌜ Room (now out) from (rangeWidth * n + numberWidth * sum (countsIn n (now ranges))) ⌝ }
-    ensures { λ r. ⌜ Puts (now (out .entry)) from (joined (map rangeFields (ranging (map slotOf (pieces rangeSlotSize n (now (ranges .entry)))) (numbersFrom 0 (sum (countsIn n (now (ranges .entry)))) (now (references .entry)))))) (rangeWidth * n + numberWidth * sum (countsIn n (now (ranges .entry)))) (now (out .exit)) r ⌝ }
+    ensures { λ r. ⌜ Puts (now (out .entry)) from (joined (map rangeFields (ranging (map slotOf (pieces rangeSlotSize n (now (ranges .entry)))) (allNumbers n (now (ranges .entry)) (now (references .entry)))))) (rangeWidth * n + numberWidth * sum (countsIn n (now (ranges .entry)))) (now (out .exit)) r ⌝ }
 {
     let mut w = from;
     let mut used = 0;

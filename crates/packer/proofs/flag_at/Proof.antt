@@ -1,5 +1,5 @@
 -- `packer::flag_at` meets its contract: the byte is 1, or it is not. Assumes nothing.
-use mathlib.Core.Path.{_≡_, sym, ap}
+use mathlib.Core.Path.{sym, ap}
 use Rattle.paper.specs.Pack.Fields.{flag}
 use borrow.Author.Needs.{needs}
 use borrow.Author.Tests.{eq-eqb, ne-eqb}

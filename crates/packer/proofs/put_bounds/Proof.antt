@@ -17,7 +17,10 @@ same-length : tie.Need-same-length
 same-length c = search needs
 
 returns : tie.Need-returns
-returns c = puts-both ((c .before .before .before .before .before .before .before .before .before .before .put .ensures)) (puts-both ((c .before .before .before .before .before .before .put2 .ensures)) ((c .before .before .put3 .ensures)))
+returns c =
+    puts-both (c .before .before .before .before .before .before .before .before .before .before .put .ensures)
+    (puts-both (c .before .before .before .before .before .before .put2 .ensures)
+    (c .before .before .put3 .ensures))
 
 pub put-bounds-spec : {M : Type 1} → statement M
 put-bounds-spec =

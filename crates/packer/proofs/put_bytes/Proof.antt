@@ -1,7 +1,7 @@
 -- `packer::put_bytes` meets its contract: before each turn the bytes so far are put. Assumes nothing.
 use Prim.Native.Nat.{_*_, _-_, _≤_}
 use native.Mathlib.Omega.{arith}
-use mathlib.Core.Path.{_≡_, ap}
+use mathlib.Core.Path.{_≡_}
 use mathlib.Core.List.{map}
 use lib.ListN.{take, drop}
 use borrow.Author.Needs.{needs}
@@ -19,7 +19,7 @@ abbrev μ-loop : tie.MeasureT-loop
 μ-loop out₀ names first n w₀ i₀ out w i = n - i
 
 loop-holds : tie.Need-loop-holds Inv-loop μ-loop
-loop-holds c = (omega arith, puts-nothing _ _ _ ((c .before .before .pre .1)))
+loop-holds c = (omega arith, puts-nothing _ _ _ (c .before .before .pre .1))
 
 add-wide : tie.Need-add-wide Inv-loop μ-loop
 add-wide c = omega arith
@@ -42,16 +42,19 @@ loop-less c = omega arith
 loop-again : tie.Need-loop-again Inv-loop μ-loop
 loop-again c = (
   omega arith,
-  puts-are (puts-both ((c .before .before .before .before .before .before .before .loop .inv .1)) ((c .before .before .put .ensures))) (byte-more byteWidth ((c .before .before .before .before .before .before .before .before .before .before .args .first)) ((c .before .before .before .before .before .before .before .loop .i)) _ ((c .before .before .before .before .before .before .before .before .before .before .args .names .now)) (omega arith) ((c .before .before .before .wide .ensures))) (omega arith),
+  puts-are (puts-both (c .before .before .before .before .before .before .before .loop .inv .1)
+      (c .before .before .put .ensures))
+      (byte-more byteWidth (c .before .before .before .before .before .before .before .before .before .before .args .first)
+      (c .before .before .before .before .before .before .before .loop .i) _ _ (omega arith)
+      (c .before .before .before .wide .ensures))
+      (omega arith),
 )
 
 same-length : tie.Need-same-length Inv-loop μ-loop
-same-length c = ((c .before .loop .inv .1 .same-length))
+same-length c = (c .before .loop .inv .1 .same-length)
 
 returns : tie.Need-returns Inv-loop μ-loop
-returns c =
-    let e : (c .before .loop .i) ≡ (c .before .before .before .before .args .n) = omega arith in
-    puts-are ((c .before .loop .inv .1)) (ap (λ k. map (field byteWidth) (take k (drop ((c .before .before .before .before .args .first)) ((c .before .before .before .before .args .names .now))))) e) (ap (λ k. byteWidth * k) e)
+returns c = let e : c .before .loop .i ≡ c .before .before .before .before .args .n = omega arith in rw e at (c .before .loop .inv .1)
 
 pub put-bytes-spec : {M : Type 1} → statement M
 put-bytes-spec =

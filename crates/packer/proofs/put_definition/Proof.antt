@@ -42,8 +42,15 @@ same-length c = search needs
 
 returns : tie.Need-returns
 returns c =
-    puts-are (puts-both ((c .before .before .before .before .before .before .before .before .before .before .put .ensures)) (puts-both ((c .before .before .before .before .before .before .put2 .ensures)) ((c .before .before .put3 .ensures))))
-    (definition-fields ((c .before .before .before .before .before .before .before .before .before .before .before .before .before .before .before .before .before .args .i)) _ _ _ ((c .before .before .before .before .before .before .before .before .before .before .before .before .before .before .before .before .before .args .definitions .now)) (omega arith) ((c .before .before .before .before .before .before .before .before .before .before .before .before .before .before .flag-at .ensures)) ((c .before .before .before .before .before .before .before .before .before .before .before .before .before .flag-at2 .ensures)) ((c .before .before .before .before .before .before .before .before .before .before .before .before .get-u32 .ensures))) refl
+    let b = c .before .before .before .before .before .before .before .before .before .before in
+    puts-are (puts-both (b .put .ensures)
+    (puts-both (c .before .before .before .before .before .before .put2 .ensures)
+    (c .before .before .put3 .ensures)))
+    (definition-fields (b .before .before .before .before .before .before .before .args .i) _ _ _ _ (omega arith)
+    (b .before .before .before .before .flag-at .ensures)
+    (b .before .before .before .flag-at2 .ensures)
+    (b .before .before .get-u32 .ensures))
+    refl
 
 pub put-definition-spec : {M : Type 1} → statement M
 put-definition-spec =

@@ -1,7 +1,7 @@
 -- `packer::put_definitions` meets its contract: before each turn the definitions so far are put. Assumes nothing.
 use Prim.Native.Nat.{_*_, _-_, _≤_}
 use native.Mathlib.Omega.{arith}
-use mathlib.Core.Path.{_≡_, sym, ap}
+use mathlib.Core.Path.{_≡_, sym}
 use mathlib.Core.List.{map}
 use Rattle.paper.specs.Lists.{joined}
 use Rattle.paper.specs.Pack.Fields.{definitionWidth, definitionFields}
@@ -21,7 +21,7 @@ abbrev μ-loop : tie.MeasureT-loop
 
 loop-holds : tie.Need-loop-holds Inv-loop μ-loop
 unfolding pieces
-loop-holds c = (omega arith, puts-nothing _ _ _ ((c .before .before .pre .1)))
+loop-holds c = (omega arith, puts-nothing _ _ _ (c .before .before .pre .1))
 
 put-definition-requires : tie.Need-put-definition-requires Inv-loop μ-loop
 put-definition-requires c κs = (omega arith, record { few = omega arith; room = omega arith })
@@ -35,15 +35,17 @@ loop-less c = omega arith
 loop-again : tie.Need-loop-again Inv-loop μ-loop
 loop-again c = (
   omega arith,
-  puts-are (puts-both ((c .before .before .before .before .before .loop .inv .1)) ((c .before .before .put-definition .ensures))) (sym (joined-more definitionFields definitionOf definitionSize ((c .before .before .before .before .before .loop .i)) ((c .before .before .before .before .before .before .before .before .args .definitions .now))))
+  puts-are (puts-both (c .before .before .before .before .before .loop .inv .1)
+      (c .before .before .put-definition .ensures))
+      (sym (joined-more definitionFields definitionOf definitionSize _ _))
       (omega arith),
 )
 
 same-length : tie.Need-same-length Inv-loop μ-loop
-same-length c = ((c .before .loop .inv .1 .same-length))
+same-length c = (c .before .loop .inv .1 .same-length)
 
 returns : tie.Need-returns Inv-loop μ-loop
-returns c = let e : (c .before .loop .i) ≡ (c .before .before .before .before .args .n) = omega arith in puts-are ((c .before .loop .inv .1)) (ap (λ k. joined (map definitionFields (map definitionOf (pieces definitionSize k ((c .before .before .before .before .args .definitions .now)))))) e) (ap (λ k. definitionWidth * k) e)
+returns c = let e : c .before .loop .i ≡ c .before .before .before .before .args .n = omega arith in rw e at (c .before .loop .inv .1)
 
 pub put-definitions-spec : {M : Type 1} → statement M
 put-definitions-spec =

@@ -26,7 +26,12 @@ same-length c = search needs
 returns : tie.Need-returns
 unfolding headOf
 returns c =
-    puts-both ((c .before .before .before .before .before .before .before .before .before .before .before .before .before .before .before .before .before .before .put .ensures)) (puts-both ((c .before .before .before .before .before .before .before .before .before .before .before .before .before .before .put2 .ensures)) (puts-both ((c .before .before .before .before .before .before .before .before .before .before .put3 .ensures)) (puts-both ((c .before .before .before .before .before .before .put4 .ensures)) ((c .before .before .put5 .ensures)))))
+    let b = c .before .before .before .before .before .before .before .before .before .before .before .before .before .before in
+    puts-both (b .before .before .before .before .put .ensures)
+    (puts-both (b .put2 .ensures)
+    (puts-both (c .before .before .before .before .before .before .before .before .before .before .put3 .ensures)
+    (puts-both (c .before .before .before .before .before .before .put4 .ensures)
+    (c .before .before .put5 .ensures))))
 
 pub put-head-spec : {M : Type 1} → statement M
 put-head-spec =

@@ -18,7 +18,11 @@ same-length c = search needs
 
 returns : tie.Need-returns
 returns c =
-    puts-are (puts-both ((c .before .before .before .before .before .before .put .ensures)) ((c .before .before .put-bytes .ensures))) (name-fields ((c .before .before .before .before .before .before .before .before .before .before .args .first)) ((c .before .before .before .before .before .before .before .before .before .before .args .n)) ((c .before .before .before .before .before .before .before .before .before .before .args .names .now)) (omega arith)) refl
+    puts-are (puts-both (c .before .before .before .before .before .before .put .ensures)
+    (c .before .before .put-bytes .ensures))
+    (name-fields (c .before .before .before .before .before .before .before .before .before .before .args .first)
+    (c .before .before .before .before .before .before .before .before .before .before .args .n)
+    _ (omega arith)) refl
 
 pub put-name-spec : {M : Type 1} → statement M
 put-name-spec = tie.close (tie.spec put-requires put-bytes-requires same-length returns)

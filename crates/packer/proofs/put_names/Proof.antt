@@ -1,9 +1,8 @@
 -- `packer::put_names` meets its contract: before each turn the names so far are put, and `at` is the sum of their lengths. Assumes nothing.
 use Prim.Native.Nat.{_+_, _*_, _-_, _≤_}
 use native.Mathlib.Omega.{arith}
-use mathlib.Core.Path.{_≡_, refl, ap, _∙_}
+use mathlib.Core.Path.{_≡_, refl}
 use mathlib.Core.List.{map}
-use lib.ListN.{length}
 use borrow.Author.Needs.{needs}
 use Rattle.paper.specs.Lists.{joined, sum}
 use Rattle.paper.specs.Pack.Fields.{nameLengthWidth, byteWidth, nameFields}
@@ -17,14 +16,15 @@ use Rattle.packer.proofs.put_names.Tie as tie
 abbrev Inv-loop : tie.InvT-loop
 Inv-loop out₀ names categories n w₀ at₀ i₀ out w at i =
     (i ≤ n)
-    × ((at ≡ sum (lengthsIn i categories)) × Puts out₀ w₀ (joined (map nameFields (split (lengthsIn i categories) names))) (nameLengthWidth * i + byteWidth * at) out w)
+    × ((at ≡ sum (lengthsIn i categories))
+    × Puts out₀ w₀ (joined (map nameFields (split (lengthsIn i categories) names))) (nameLengthWidth * i + byteWidth * at) out w)
 
 abbrev μ-loop : tie.MeasureT-loop
 μ-loop out₀ names categories n w₀ at₀ i₀ out w at i = n - i
 
 loop-holds : tie.Need-loop-holds Inv-loop μ-loop
 unfolding lengthsIn pieces split
-loop-holds c = (omega arith, (refl, puts-nothing _ _ _ ((c .before .before .before .pre .1 .1))))
+loop-holds c = (omega arith, (refl, puts-nothing _ _ _ (c .before .before .before .pre .1 .1)))
 
 mul-get-u16 : tie.Need-mul-get-u16 Inv-loop μ-loop
 mul-get-u16 c = omega arith
@@ -40,11 +40,19 @@ cast-len c = omega arith
 
 put-name-requires : tie.Need-put-name-requires Inv-loop μ-loop
 put-name-requires c κs =
-    let f = (name-fits ((c .before .before .before .before .before .before .before .args .names .now)) ((c .before .before .before .before .before .before .before .args .categories .now)) ((c .before .before .before .before .before .before .before .args .n)) ((c .before .before .before .loop .i)) ((c .before .before .before .loop .at)) _ ((c .before .before .loop-test .taken)) ((c .before .before .before .before .before .before .before .pre .0)) ((c .before .get-u16 .ensures)) ((c .before .before .before .loop .inv .1 .0))) in
+    let f = name-fits _ _ _ _ _ (c .before .before .loop-test .taken)
+    (c .before .before .before .before .before .before .before .pre .0)
+    (c .before .get-u16 .ensures)
+    (c .before .before .before .loop .inv .1 .0) in
     (omega arith, record { few = omega arith; room = omega arith })
 
 add-at : tie.Need-add-at Inv-loop μ-loop
-add-at c = let f = (name-fits ((c .before .before .before .before .before .before .before .before .before .before .args .names .now)) ((c .before .before .before .before .before .before .before .before .before .before .args .categories .now)) ((c .before .before .before .before .before .before .before .before .before .before .args .n)) ((c .before .before .before .before .before .before .loop .i)) ((c .before .before .before .before .before .before .loop .at)) _ ((c .before .before .before .before .before .loop-test .taken)) ((c .before .before .before .before .before .before .before .before .before .before .pre .0)) ((c .before .before .before .before .get-u16 .ensures)) ((c .before .before .before .before .before .before .loop .inv .1 .0))) in omega arith
+add-at c =
+    let f = name-fits _ _ _ _ _ (c .before .before .before .before .before .loop-test .taken)
+    (c .before .before .before .before .before .before .before .before .before .before .pre .0)
+    (c .before .before .before .before .get-u16 .ensures)
+    (c .before .before .before .before .before .before .loop .inv .1 .0) in
+    omega arith
 
 add-i : tie.Need-add-i Inv-loop μ-loop
 add-i c = omega arith
@@ -56,20 +64,28 @@ loop-again : tie.Need-loop-again Inv-loop μ-loop
 loop-again c = (
   omega arith,
   (
-    (name-sum ((c .before .before .before .before .before .before .before .before .before .before .args .names .now)) ((c .before .before .before .before .before .before .before .before .before .before .args .categories .now)) ((c .before .before .before .before .before .before .before .before .before .before .args .n)) ((c .before .before .before .before .before .before .loop .i)) ((c .before .before .before .before .before .before .loop .at)) _ ((c .before .before .before .before .before .loop-test .taken)) ((c .before .before .before .before .before .before .before .before .before .before .pre .0)) ((c .before .before .before .before .get-u16 .ensures)) ((c .before .before .before .before .before .before .loop .inv .1 .0))),
-    puts-are (puts-both ((c .before .before .before .before .before .before .loop .inv .1 .1)) ((c .before .before .put-name .ensures))) (name-more ((c .before .before .before .before .before .before .before .before .before .before .args .names .now)) ((c .before .before .before .before .before .before .before .before .before .before .args .categories .now)) ((c .before .before .before .before .before .before .before .before .before .before .args .n)) ((c .before .before .before .before .before .before .loop .i)) ((c .before .before .before .before .before .before .loop .at)) _ ((c .before .before .before .before .before .loop-test .taken)) ((c .before .before .before .before .before .before .before .before .before .before .pre .0)) ((c .before .before .before .before .get-u16 .ensures)) ((c .before .before .before .before .before .before .loop .inv .1 .0)))
+    (name-sum _ _ _ _ _ (c .before .before .before .before .before .loop-test .taken)
+        (c .before .before .before .before .before .before .before .before .before .before .pre .0)
+        (c .before .before .before .before .get-u16 .ensures)
+        (c .before .before .before .before .before .before .loop .inv .1 .0)),
+    puts-are (puts-both (c .before .before .before .before .before .before .loop .inv .1 .1)
+        (c .before .before .put-name .ensures))
+        (name-more _ _ _ _ _ (c .before .before .before .before .before .loop-test .taken)
+        (c .before .before .before .before .before .before .before .before .before .before .pre .0)
+        (c .before .before .before .before .get-u16 .ensures)
+        (c .before .before .before .before .before .before .loop .inv .1 .0) _)
         (omega arith),
   ),
 )
 
 same-length : tie.Need-same-length Inv-loop μ-loop
-same-length c = ((c .before .loop .inv .1 .1 .same-length))
+same-length c = (c .before .loop .inv .1 .1 .same-length)
 
 returns : tie.Need-returns Inv-loop μ-loop
 returns c =
-    let e : (c .before .loop .i) ≡ (c .before .before .before .before .before .args .n) = omega arith in
-    let f : (c .before .loop .at) ≡ sum (lengthsIn ((c .before .before .before .before .before .args .n)) ((c .before .before .before .before .before .args .categories .now))) = ((c .before .loop .inv .1 .0)) ∙ ap (λ k. sum (lengthsIn k ((c .before .before .before .before .before .args .categories .now)))) e in
-    puts-are ((c .before .loop .inv .1 .1)) (ap (λ k. joined (map nameFields (split (lengthsIn k ((c .before .before .before .before .before .args .categories .now))) ((c .before .before .before .before .before .args .names .now))))) e) (omega arith)
+    let e : c .before .loop .i ≡ c .before .before .before .before .before .args .n = omega arith in
+    let f = rw e at (c .before .loop .inv .1 .0) in
+    puts-are (rw e at (c .before .loop .inv .1 .1)) refl (omega arith)
 
 pub put-names-spec : {M : Type 1} → statement M
 put-names-spec =

@@ -18,7 +18,7 @@ same-length : tie.Need-same-length
 same-length c = search needs
 
 returns : tie.Need-returns
-returns c = pack-whole _ _ ((c .before .before .before .before .before .before .before .put-fields .ensures)) refl ((c .before .before .put .ensures))
+returns c = pack-whole _ _ (c .before .before .before .before .before .before .before .put-fields .ensures) refl (c .before .before .put .ensures)
 
 pub put-pack-spec : {M : Type 1} → statement M
 put-pack-spec = tie.close (tie.spec put-fields-requires sub-pad put-requires same-length returns)

@@ -1,14 +1,13 @@
 -- `packer::put_ranges` meets its contract: before each turn the ranges so far are put, and `used` is the sum of their counts. Assumes nothing.
 use Prim.Native.Nat.{_+_, _*_, _-_, _≤_}
 use native.Mathlib.Omega.{arith}
-use mathlib.Core.Path.{_≡_, refl, ap, _∙_}
+use mathlib.Core.Path.{_≡_, refl}
 use mathlib.Core.List.{map}
-use lib.ListN.{length}
 use borrow.Author.Needs.{needs}
 use Rattle.paper.specs.Lists.{joined, sum}
 use Rattle.paper.specs.Pack.Fields.{rangeWidth, numberWidth, rangeFields}
 use Rattle.paper.specs.Tables.Layout.{rangeSlotSize, slotOf, pieces, ranging}
-use Rattle.packer.specs.Writer.{Puts, countsIn, numbersFrom}
+use Rattle.packer.specs.Writer.{Puts, countsIn, allNumbers}
 use Rattle.packer.proofs.Writing.{puts-nothing, puts-both, puts-are}
 use Rattle.packer.proofs.Ranges.{range-sum, range-fits, range-more}
 use Rattle.packer.proofs.put_ranges.Statement.{statement}
@@ -18,14 +17,15 @@ abbrev Inv-loop : tie.InvT-loop
 Inv-loop out₀ ranges references n w₀ used₀ i₀ out w used i =
     (i ≤ n)
     × ((used ≡ sum (countsIn i ranges))
-    × Puts out₀ w₀ (joined (map rangeFields (ranging (map slotOf (pieces rangeSlotSize i ranges)) (numbersFrom 0 (sum (countsIn n ranges)) references)))) (rangeWidth * i + numberWidth * used) out w)
+    × Puts out₀ w₀ (joined (map rangeFields (ranging (map slotOf (pieces rangeSlotSize i ranges)) (allNumbers n ranges references))))
+    (rangeWidth * i + numberWidth * used) out w)
 
 abbrev μ-loop : tie.MeasureT-loop
 μ-loop out₀ ranges references n w₀ used₀ i₀ out w used i = n - i
 
 loop-holds : tie.Need-loop-holds Inv-loop μ-loop
 unfolding countsIn pieces ranging
-loop-holds c = (omega arith, (refl, puts-nothing _ _ _ ((c .before .before .before .pre .1 .1))))
+loop-holds c = (omega arith, (refl, puts-nothing _ _ _ (c .before .before .before .pre .1 .1)))
 
 mul-at : tie.Need-mul-at Inv-loop μ-loop
 mul-at c = omega arith
@@ -47,7 +47,10 @@ get-u16-requires-3 c κs = search needs
 
 put-bounds-requires : tie.Need-put-bounds-requires Inv-loop μ-loop
 put-bounds-requires c κs =
-    let f = (range-fits ((c .before .before .before .before .before .before .before .before .before .args .ranges .now)) ((c .before .before .before .before .before .before .before .before .before .args .references .now)) ((c .before .before .before .before .before .before .before .before .before .args .n)) ((c .before .before .before .before .before .loop .i)) ((c .before .before .before .before .before .loop .used)) _ _ _ ((c .before .before .before .before .loop-test .taken)) ((c .before .before .before .before .before .before .before .before .before .pre .0)) ((c .before .before .before .get-u16 .ensures)) ((c .before .before .get-u162 .ensures)) ((c .before .get-u163 .ensures)) ((c .before .before .before .before .before .loop .inv .1 .0))) in
+    let f = range-fits _ _ _ _ _ (c .before .before .before .before .loop-test .taken)
+    (c .before .before .before .before .before .before .before .before .before .pre .0)
+    (c .before .get-u163 .ensures)
+    (c .before .before .before .before .before .loop .inv .1 .0) in
     record { few = omega arith; room = omega arith }
 
 cast-put-references : tie.Need-cast-put-references Inv-loop μ-loop
@@ -55,14 +58,22 @@ cast-put-references c = omega arith
 
 put-references-requires : tie.Need-put-references-requires Inv-loop μ-loop
 put-references-requires c κs =
-    let f = (range-fits ((c .before .before .before .before .before .before .before .before .before .before .before .before .before .args .ranges .now)) ((c .before .before .before .before .before .before .before .before .before .before .before .before .before .args .references .now)) ((c .before .before .before .before .before .before .before .before .before .before .before .before .before .args .n)) ((c .before .before .before .before .before .before .before .before .before .loop .i)) ((c .before .before .before .before .before .before .before .before .before .loop .used)) _ _ _ ((c .before .before .before .before .before .before .before .before .loop-test .taken)) ((c .before .before .before .before .before .before .before .before .before .before .before .before .before .pre .0)) ((c .before .before .before .before .before .before .before .get-u16 .ensures)) ((c .before .before .before .before .before .before .get-u162 .ensures)) ((c .before .before .before .before .before .get-u163 .ensures)) ((c .before .before .before .before .before .before .before .before .before .loop .inv .1 .0))) in
+    let f = range-fits _ _ _ _ _ (c .before .before .before .before .before .before .before .before .loop-test .taken)
+    (c .before .before .before .before .before .before .before .before .before .before .before .before .before .pre .0)
+    (c .before .before .before .before .before .get-u163 .ensures)
+    (c .before .before .before .before .before .before .before .before .before .loop .inv .1 .0) in
     (omega arith, record { few = omega arith; room = omega arith })
 
 cast-used : tie.Need-cast-used Inv-loop μ-loop
 cast-used c = omega arith
 
 add-used : tie.Need-add-used Inv-loop μ-loop
-add-used c = let f = (range-fits ((c .before .before .before .before .before .before .before .before .before .before .before .before .before .before .before .before .args .ranges .now)) ((c .before .before .before .before .before .before .before .before .before .before .before .before .before .before .before .before .args .references .now)) ((c .before .before .before .before .before .before .before .before .before .before .before .before .before .before .before .before .args .n)) ((c .before .before .before .before .before .before .before .before .before .before .before .before .loop .i)) ((c .before .before .before .before .before .before .before .before .before .before .before .before .loop .used)) _ _ _ ((c .before .before .before .before .before .before .before .before .before .before .before .loop-test .taken)) ((c .before .before .before .before .before .before .before .before .before .before .before .before .before .before .before .before .pre .0)) ((c .before .before .before .before .before .before .before .before .before .before .get-u16 .ensures)) ((c .before .before .before .before .before .before .before .before .before .get-u162 .ensures)) ((c .before .before .before .before .before .before .before .before .get-u163 .ensures)) ((c .before .before .before .before .before .before .before .before .before .before .before .before .loop .inv .1 .0))) in omega arith
+add-used c =
+    let f = range-fits _ _ _ _ _ (c .before .before .before .before .before .before .before .before .before .before .before .loop-test .taken)
+    (c .before .before .before .before .before .before .before .before .before .before .before .before .before .before .before .before .pre .0)
+    (c .before .before .before .before .before .before .before .before .get-u163 .ensures)
+    (c .before .before .before .before .before .before .before .before .before .before .before .before .loop .inv .1 .0) in
+    omega arith
 
 add-i : tie.Need-add-i Inv-loop μ-loop
 add-i c = omega arith
@@ -74,22 +85,31 @@ loop-again : tie.Need-loop-again Inv-loop μ-loop
 loop-again c = (
   omega arith,
   (
-    (range-sum ((c .before .before .before .before .before .before .before .before .before .before .before .before .before .before .before .before .args .ranges .now)) ((c .before .before .before .before .before .before .before .before .before .before .before .before .before .before .before .before .args .references .now)) ((c .before .before .before .before .before .before .before .before .before .before .before .before .before .before .before .before .args .n)) ((c .before .before .before .before .before .before .before .before .before .before .before .before .loop .i)) ((c .before .before .before .before .before .before .before .before .before .before .before .before .loop .used)) _ _ _ ((c .before .before .before .before .before .before .before .before .before .before .before .loop-test .taken)) ((c .before .before .before .before .before .before .before .before .before .before .before .before .before .before .before .before .pre .0)) ((c .before .before .before .before .before .before .before .before .before .before .get-u16 .ensures)) ((c .before .before .before .before .before .before .before .before .before .get-u162 .ensures)) ((c .before .before .before .before .before .before .before .before .get-u163 .ensures)) ((c .before .before .before .before .before .before .before .before .before .before .before .before .loop .inv .1 .0))),
-    puts-are (puts-both ((c .before .before .before .before .before .before .before .before .before .before .before .before .loop .inv .1 .1)) (puts-both ((c .before .before .before .before .before .before .put-bounds .ensures)) ((c .before .before .put-references .ensures)))) (range-more ((c .before .before .before .before .before .before .before .before .before .before .before .before .before .before .before .before .args .ranges .now)) ((c .before .before .before .before .before .before .before .before .before .before .before .before .before .before .before .before .args .references .now)) ((c .before .before .before .before .before .before .before .before .before .before .before .before .before .before .before .before .args .n)) ((c .before .before .before .before .before .before .before .before .before .before .before .before .loop .i)) ((c .before .before .before .before .before .before .before .before .before .before .before .before .loop .used)) _ _ _ ((c .before .before .before .before .before .before .before .before .before .before .before .loop-test .taken)) ((c .before .before .before .before .before .before .before .before .before .before .before .before .before .before .before .before .pre .0)) ((c .before .before .before .before .before .before .before .before .before .before .get-u16 .ensures)) ((c .before .before .before .before .before .before .before .before .before .get-u162 .ensures)) ((c .before .before .before .before .before .before .before .before .get-u163 .ensures)) ((c .before .before .before .before .before .before .before .before .before .before .before .before .loop .inv .1 .0)))
+    (range-sum _ _ _ _ _ (c .before .before .before .before .before .before .before .before .before .before .before .loop-test .taken)
+        (c .before .before .before .before .before .before .before .before .before .before .before .before .before .before .before .before .pre .0)
+        (c .before .before .before .before .before .before .before .before .get-u163 .ensures)
+        (c .before .before .before .before .before .before .before .before .before .before .before .before .loop .inv .1 .0)),
+    puts-are (puts-both (c .before .before .before .before .before .before .before .before .before .before .before .before .loop .inv .1 .1)
+        (puts-both (c .before .before .before .before .before .before .put-bounds .ensures)
+        (c .before .before .put-references .ensures)))
+        (range-more _ _ _ _ _ (c .before .before .before .before .before .before .before .before .before .before .before .loop-test .taken)
+        (c .before .before .before .before .before .before .before .before .before .before .before .before .before .before .before .before .pre .0)
+        (c .before .before .before .before .before .before .before .before .get-u163 .ensures)
+        (c .before .before .before .before .before .before .before .before .before .before .before .before .loop .inv .1 .0) _ _ _
+        (c .before .before .before .before .before .before .before .before .before .before .get-u16 .ensures)
+        (c .before .before .before .before .before .before .before .before .before .get-u162 .ensures))
         (omega arith),
   ),
 )
 
 same-length : tie.Need-same-length Inv-loop μ-loop
-same-length c = ((c .before .loop .inv .1 .1 .same-length))
+same-length c = (c .before .loop .inv .1 .1 .same-length)
 
 returns : tie.Need-returns Inv-loop μ-loop
 returns c =
-    let e : (c .before .loop .i) ≡ (c .before .before .before .before .before .args .n) = omega arith in
-    let f : (c .before .loop .used) ≡ sum (countsIn ((c .before .before .before .before .before .args .n)) ((c .before .before .before .before .before .args .ranges .now))) = ((c .before .loop .inv .1 .0)) ∙ ap (λ k. sum (countsIn k ((c .before .before .before .before .before .args .ranges .now)))) e in
-    puts-are ((c .before .loop .inv .1 .1))
-    (ap (λ k. joined (map rangeFields (ranging (map slotOf (pieces rangeSlotSize k ((c .before .before .before .before .before .args .ranges .now)))) (numbersFrom 0 (sum (countsIn ((c .before .before .before .before .before .args .n)) ((c .before .before .before .before .before .args .ranges .now)))) ((c .before .before .before .before .before .args .references .now)))))) e)
-    (omega arith)
+    let e : c .before .loop .i ≡ c .before .before .before .before .before .args .n = omega arith in
+    let f = rw e at (c .before .loop .inv .1 .0) in
+    puts-are (rw e at (c .before .loop .inv .1 .1)) refl (omega arith)
 
 pub put-ranges-spec : {M : Type 1} → statement M
 put-ranges-spec =

@@ -1,7 +1,7 @@
 -- `packer::put_references` meets its contract: before each turn the references so far are put. Assumes nothing.
 use Prim.Native.Nat.{_*_, _-_, _≤_}
 use native.Mathlib.Omega.{arith}
-use mathlib.Core.Path.{_≡_, ap}
+use mathlib.Core.Path.{_≡_}
 use mathlib.Core.List.{map}
 use borrow.Author.Needs.{needs}
 use Rattle.paper.specs.Pack.Fields.{numberWidth, field}
@@ -20,7 +20,7 @@ abbrev μ-loop : tie.MeasureT-loop
 
 loop-holds : tie.Need-loop-holds Inv-loop μ-loop
 unfolding numbersFrom pieces
-loop-holds c = (omega arith, puts-nothing _ _ _ ((c .before .before .pre .1)))
+loop-holds c = (omega arith, puts-nothing _ _ _ (c .before .before .pre .1))
 
 add-get-u16 : tie.Need-add-get-u16 Inv-loop μ-loop
 add-get-u16 c = omega arith
@@ -46,17 +46,19 @@ loop-less c = omega arith
 loop-again : tie.Need-loop-again Inv-loop μ-loop
 loop-again c = (
   omega arith,
-  puts-are (puts-both ((c .before .before .before .before .before .before .loop .inv .1)) ((c .before .before .put .ensures))) (number-more numberWidth ((c .before .before .before .before .before .before .before .before .before .args .first)) ((c .before .before .before .before .before .before .loop .i)) _ ((c .before .before .before .before .before .before .before .before .before .args .references .now)) (omega arith) ((c .before .before .before .before .get-u16 .ensures)))
+  puts-are (puts-both (c .before .before .before .before .before .before .loop .inv .1)
+      (c .before .before .put .ensures))
+      (number-more numberWidth (c .before .before .before .before .before .before .before .before .before .args .first)
+      (c .before .before .before .before .before .before .loop .i) _ _ (omega arith)
+      (c .before .before .before .before .get-u16 .ensures))
       (omega arith),
 )
 
 same-length : tie.Need-same-length Inv-loop μ-loop
-same-length c = ((c .before .loop .inv .1 .same-length))
+same-length c = (c .before .loop .inv .1 .same-length)
 
 returns : tie.Need-returns Inv-loop μ-loop
-returns c =
-    let e : (c .before .loop .i) ≡ (c .before .before .before .before .args .n) = omega arith in
-    puts-are ((c .before .loop .inv .1)) (ap (λ k. map (field numberWidth) (numbersFrom ((c .before .before .before .before .args .first)) k ((c .before .before .before .before .args .references .now)))) e) (ap (λ k. numberWidth * k) e)
+returns c = let e : c .before .loop .i ≡ c .before .before .before .before .args .n = omega arith in rw e at (c .before .loop .inv .1)
 
 pub put-references-spec : {M : Type 1} → statement M
 put-references-spec =

@@ -1,9 +1,6 @@
 -- `packer::BitWriter::put` meets its contract. The field stands behind the bits that wait in one number, and each turn writes the byte that
 -- stands highest in it. Assumes nothing.
-use Prim.Native.Nat.{_≤_, _+_, _*_}
 use native.Mathlib.Omega.{arith}
-use mathlib.Core.Path.{_≡_}
-use lib.ListN.{length}
 use borrow.Author.Needs.{needs}
 use Rattle.packer.proofs.Bits.{mask-is, joined-up}
 use Rattle.packer.proofs.Writing.{Emits, emits-none, emits-more, emits-all}
