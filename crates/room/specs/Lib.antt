@@ -1,0 +1,2 @@
+-- What a reader works over behind refusal 1: tables of just the sizes.
+pub mod Sized
