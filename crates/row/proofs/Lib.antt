@@ -1,0 +1,5 @@
+pub mod Turn
+pub mod Notes
+pub mod Bridge
+pub mod Fills
+pub mod Search
