@@ -1,2 +1,3 @@
 pub mod Tests
+pub mod Categories
 pub mod Numbers
