@@ -9,7 +9,7 @@ use mathlib.Core.Bool.{Bool, true, false, not, cond, _&&_, _||_}
 use mathlib.Core.List.{List, [], _∷_}
 use lib.Dec.{T, leb, ltb, eqb}
 use lib.ListN.{length, getD, take, drop}
-use borrow.Author.Tests.{lt-ltb, le-ltb, ltb-false, le-leb, lt-leb, eq-eqb, ne-eqb}
+use borrow.Author.Tests.{lt-ltb, le-ltb, ltb-false, le-leb, lt-leb, eq-eqb, ne-eqb, not-true, not-false}
 use Rattle.paper.specs.Sizes.{bmpSize}
 use Rattle.paper.specs.Refusals.{notScalar, tablesApart}
 use Rattle.paper.specs.Lists.{empty}
@@ -19,6 +19,8 @@ use Rattle.paper.specs.Rows.Lookup.{Looked, gives, refuses, LookupTables, Pool,
 use Rattle.paper.specs.declared.Refusal.{Refusal}
 use Rattle.paper.proofs.Apart.{zero-one, refuses-gives}
 use Rattle.paper.proofs.Rows.Lookup.{looks-some}
+use Rattle.row.specs.Sought.{RowSought}
+use Rattle.row.proofs.Search.{sought-found}
 use Rattle.lookup.specs.declared.Span.{Span}
 use Rattle.lookup.specs.declared.Located.{Located}
 use Rattle.lookup.specs.declared.Located.the-variants.{InFlat, InRows, Refused}
@@ -58,40 +60,49 @@ or-true : (b : Bool) → (b || true) ≡ true
 or-true true = refl
 or-true false = refl
 
-module _ (bs starts lengths : List ℕ) (places c i : ℕ) (found : T (fromZero bs) → RowFound bs c i) where
-  pub rows-none : fromZero bs ≡ false → ByRows bs starts lengths places c (Refused (record { number = tablesApart; place = 0 }))
+-- b is the answer of the code's test, that the boundaries begin at 0
+pub rows-none : (bs starts lengths : List ℕ) (places c : ℕ) (b : Bool) → b ≡ fromZero bs → not b ≡ true
+    → ByRows bs starts lengths places c (Refused (record { number = tablesApart; place = 0 }))
+unfolding byRow
+rows-none bs starts lengths places c b e n =
+    let z : fromZero bs ≡ false = sym e ∙ not-true b n in
+    record { row = 0; found = λ t. absurd (subst T z t); answer = rw z }
+
+module _ (bs starts lengths : List ℕ) (places c : ℕ) (b : Bool) (e : b ≡ fromZero bs) (n : not b ≡ false) (i : ℕ) (sought : RowSought bs c i) where
+  z : fromZero bs ≡ true
+  z = sym e ∙ not-false b n
+
+  found : T (fromZero bs) → RowFound bs c i
+  found t = sought-found bs c i t sought
+
+  pub start-missing : length starts ≤ i → ByRows bs starts lengths places c (Refused (record { number = tablesApart; place = 0 }))
   unfolding byRow
-  rows-none z = record { row = i; found = found; answer = rw z }
+  start-missing h = record { row = i; found = found; answer = rw (z, le-leb (length starts) i h) }
 
-  module _ (z : fromZero bs ≡ true) where
-    pub start-missing : length starts ≤ i → ByRows bs starts lengths places c (Refused (record { number = tablesApart; place = 0 }))
+  module _ (h : i < length starts) where
+    pub length-missing : length lengths ≤ i → ByRows bs starts lengths places c (Refused (record { number = tablesApart; place = 0 }))
     unfolding byRow
-    start-missing h = record { row = i; found = found; answer = rw (z, le-leb (length starts) i h) }
+    length-missing k = record { row = i; found = found; answer = rw (z, lt-leb (length starts) i h, le-leb (length lengths) i k) }
 
-    module _ (h : i < length starts) where
-      pub length-missing : length lengths ≤ i → ByRows bs starts lengths places c (Refused (record { number = tablesApart; place = 0 }))
+    module _ (k : i < length lengths) where
+      pub row-past : places < getD starts i 0 + getD lengths i 0 → ByRows bs starts lengths places c (Refused (record { number = tablesApart; place = 0 }))
       unfolding byRow
-      length-missing k = record { row = i; found = found; answer = rw (z, lt-leb (length starts) i h, le-leb (length lengths) i k) }
+      row-past p =
+          record {
+            row = i;
+            found = found;
+            answer = rw (z, lt-leb (length starts) i h, lt-leb (length lengths) i k, lt-ltb places (getD starts i 0 + getD lengths i 0) p);
+          }
 
-      module _ (k : i < length lengths) where
-        pub row-past : places < getD starts i 0 + getD lengths i 0 → ByRows bs starts lengths places c (Refused (record { number = tablesApart; place = 0 }))
-        unfolding byRow
-        row-past p =
-            record {
-              row = i;
-              found = found;
-              answer = rw (z, lt-leb (length starts) i h, lt-leb (length lengths) i k, lt-ltb places (getD starts i 0 + getD lengths i 0) p);
-            }
-
-        pub row-there : getD starts i 0 + getD lengths i 0 ≤ places
-            → ByRows bs starts lengths places c (InRows (record { start = getD starts i 0; len = getD lengths i 0 }))
-        unfolding byRow
-        row-there p =
-            record {
-              row = i;
-              found = found;
-              answer = rw (z, lt-leb (length starts) i h, lt-leb (length lengths) i k, le-ltb places (getD starts i 0 + getD lengths i 0) p);
-            }
+      pub row-there : getD starts i 0 + getD lengths i 0 ≤ places
+          → ByRows bs starts lengths places c (InRows (record { start = getD starts i 0; len = getD lengths i 0 }))
+      unfolding byRow
+      row-there p =
+          record {
+            row = i;
+            found = found;
+            answer = rw (z, lt-leb (length starts) i h, lt-leb (length lengths) i k, le-ltb places (getD starts i 0 + getD lengths i 0) p);
+          }
 
 -- ---- the ways of a lookup
 

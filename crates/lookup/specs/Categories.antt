@@ -7,7 +7,7 @@ use mathlib.Core.Bool.{cond}
 use mathlib.Core.List.{List, []}
 use mathlib.Core.Option.{Option, none, some}
 use lib.Dec.{ltb}
-use lib.ListN.{length, getD}
+use lib.ListN.{length, getD, take, drop}
 use Rattle.paper.specs.Refusals.{tablesApart}
 use Rattle.paper.specs.Rows.Flat.{entryOffset, entryLength}
 use Rattle.paper.specs.Rows.Lookup.{Looked, gives, refuses, LookupTables, Pool, ofFlat, ofRows, Part, content, Looks, packedAt}
@@ -34,6 +34,12 @@ pub record Locates (t : LookupTables) (c : ℕ) (r : Located) : Type 0 where
   pub looked : Looked Part
   pub looks : Looks t c looked
   pub answer : r ≡ located looked
+
+-- what stands there
+abbrev pub placed : LookupTables → Located → List ℕ
+placed t (InFlat s) = take (s .len) (drop (s .start) (t .flat))
+placed t (InRows s) = take (s .len) (drop (s .start) (t .pool))
+placed t (Refused e) = []
 
 -- ---- the part itself
 

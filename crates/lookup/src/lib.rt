@@ -132,13 +132,13 @@ fn in_rows(
 ) -> Located
     ensures { λ r. ⌜ ByRows (now (boundaries .entry)) (now («row_starts» .entry)) (now («row_lengths» .entry)) places c r ⌝ }
 {
-    let row = row::eval(boundaries, c);
     if !begins_at_zero(boundaries) {
         return Located::Refused(Refusal {
             number: TABLES_APART,
             place: 0,
         });
     }
+    let row = row::eval(boundaries, c);
     if row_starts.len() <= row {
         return Located::Refused(Refusal {
             number: TABLES_APART,
@@ -199,11 +199,11 @@ pub fn locate_categories(
 
 // The categories of a code point, a part of the flat pool or of the row pool; empty where `locate_categories` refuses.
 pub fn lookup_categories<'a>(
-    flat_index: &'a [u32],
+    flat_index: &[u32],
     flat_pool: &'a [u16],
-    boundaries: &'a [u32],
-    row_starts: &'a [u32],
-    row_lengths: &'a [u16],
+    boundaries: &[u32],
+    row_starts: &[u32],
+    row_lengths: &[u16],
     row_pool: &'a [u16],
     c: u32,
 ) -> &'a [u16]
@@ -330,7 +330,7 @@ pub fn locate_name(names: &[u8], categories: &[u8], count: usize, id: usize) -> 
 }
 
 // The name of category `id`, a part of the store; empty where `locate_name` refuses.
-pub fn category_name<'a>(names: &'a [u8], categories: &'a [u8], count: usize, id: usize) -> &'a [u8]
+pub fn category_name<'a>(names: &'a [u8], categories: &[u8], count: usize, id: usize) -> &'a [u8]
     ensures { λ r. ⌜ now r ≡ nameHeld (now (names .entry)) (categoryName (now (names .entry)) (now (categories .entry)) count id) ⌝ }
 {
     match locate_name(names, categories, count, id) {

@@ -13,7 +13,7 @@ enum-known-s : tie.Need-enum-known-s
 enum-known-s c = search needs
 
 add-end : tie.Need-add-end
-add-end c = let h = name-inside _ _ _ _ _ (sym ((c .before .before .s .given .1)) ∙ (c .before .before .before .before .locate-name .ensures)) in omega arith
+add-end c = let h = name-inside _ _ _ _ _ (sym (c .before .before .s .given .1) ∙ (c .before .before .before .before .locate-name .ensures)) in omega arith
 
 sub-result : tie.Need-sub-result
 sub-result c = search needs
@@ -22,7 +22,7 @@ part-result-start : tie.Need-part-result-start
 part-result-start c = search needs
 
 part-result-end : tie.Need-part-result-end
-part-result-end c = let h = name-inside _ _ _ _ _ (sym ((c .before .before .s .given .1)) ∙ (c .before .before .before .before .locate-name .ensures)) in omega arith
+part-result-end c = let h = name-inside _ _ _ _ _ (sym (c .before .before .s .given .1) ∙ (c .before .before .before .before .locate-name .ensures)) in omega arith
 
 enum-told : tie.Need-enum-told
 enum-told c = search needs
@@ -37,10 +37,10 @@ part-result-end-2 : tie.Need-part-result-end-2
 part-result-end-2 c = search needs
 
 returns : tie.Need-returns
-returns c = name-part _ _ _ _ _ (sym ((c .before .before .before .s .given .1)) ∙ (c .before .before .before .before .before .locate-name .ensures))
+returns c = name-part _ _ _ _ _ (sym (c .before .before .before .s .given .1) ∙ (c .before .before .before .before .before .locate-name .ensures))
 
 returns-2 : tie.Need-returns-2
-returns-2 c = name-none _ _ _ _ _ (sym ((c .before .enum-told .given .1)) ∙ (c .before .before .before .locate-name .ensures))
+returns-2 c = name-none _ _ _ _ _ (sym (c .before .enum-told .given .1) ∙ (c .before .before .before .locate-name .ensures))
 
 pub category-name-spec : {M : Type 1} → statement M
 category-name-spec =

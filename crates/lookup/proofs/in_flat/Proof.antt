@@ -12,13 +12,13 @@ shared-slice-read-entry : tie.Need-shared-slice-read-entry
 shared-slice-read-entry c = search needs
 
 cast-start : tie.Need-cast-start
-cast-start c = omega (arith, (c .shared-slice-known .given) ((c .before .args .at)))
+cast-start c = omega (arith, (c .shared-slice-known .given) (c .before .args .at))
 
 cast-len : tie.Need-cast-len
 cast-len c = search needs
 
 add-if1 : tie.Need-add-if1
-add-if1 c = omega (arith, (c .shared-slice-known .given) ((c .before .args .at)))
+add-if1 c = omega (arith, (c .shared-slice-known .given) (c .before .args .at))
 
 returns : tie.Need-returns
 returns c = flat-past _ _ (omega arith)

@@ -9,16 +9,16 @@ is-scalar-requires : tie.Need-is-scalar-requires
 is-scalar-requires c κs = search needs
 
 returns : tie.Need-returns
-returns c = packed-none _ _ (none _ _ ((c .before .is-scalar .ensures)) ((c .if1 .taken)))
+returns c = packed-none _ _ (none _ _ (c .before .is-scalar .ensures) (c .if1 .taken))
 
 returns-2 : tie.Need-returns-2
-returns-2 c = packed-beyond _ _ (some _ _ ((c .before .before .is-scalar .ensures)) ((c .before .if1 .left))) (omega arith)
+returns-2 c = packed-beyond _ _ (some _ _ (c .before .before .is-scalar .ensures) (c .before .if1 .left)) (omega arith)
 
 returns-3 : tie.Need-returns-3
-returns-3 c = packed-empty _ _ (some _ _ ((c .before .before .before .is-scalar .ensures)) ((c .before .before .if1 .left))) (omega arith) (omega arith)
+returns-3 c = packed-empty _ _ (some _ _ (c .before .before .before .is-scalar .ensures) (c .before .before .if1 .left)) (omega arith) (omega arith)
 
 returns-4 : tie.Need-returns-4
-returns-4 c = packed-past _ _ (some _ _ ((c .before .before .before .before .is-scalar .ensures)) ((c .before .before .before .if1 .left))) (omega arith) (λ e. omega arith) (omega arith)
+returns-4 c = packed-past _ _ (some _ _ (c .before .before .before .before .is-scalar .ensures) (c .before .before .before .if1 .left)) (omega arith) (λ e. omega arith) (omega arith)
 
 mul-entry : tie.Need-mul-entry
 mul-entry c = search needs
@@ -30,7 +30,7 @@ cast-t13 : tie.Need-cast-t13
 cast-t13 c = search needs
 
 returns-5 : tie.Need-returns-5
-returns-5 c = packed-at _ _ (some _ _ ((c .before .before .before .before .before .is-scalar .ensures)) ((c .before .before .before .before .if1 .left))) (omega arith) (λ e. omega arith) (omega arith)
+returns-5 c = packed-at _ _ (some _ _ (c .before .before .before .before .before .is-scalar .ensures) (c .before .before .before .before .if1 .left)) (omega arith) (λ e. omega arith) (omega arith)
 
 pub lookup-categories-packed-spec : {M : Type 1} → statement M
 lookup-categories-packed-spec =
