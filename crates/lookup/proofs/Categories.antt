@@ -25,7 +25,7 @@ use Rattle.lookup.specs.declared.Span.{Span}
 use Rattle.lookup.specs.declared.Located.{Located}
 use Rattle.lookup.specs.declared.Located.the-variants.{InFlat, InRows, Refused}
 use Rattle.lookup.specs.Categories.{inPool, located, Locates, held, PartIs}
-use Rattle.lookup.specs.Ways.{within, byFlat, byRow, ByRows}
+use Rattle.lookup.specs.Ways.{byFlat, ofRow, byRow, ByRows}
 use Rattle.lookup.proofs.Tests.{no-entries, some-entries}
 
 -- ---- a part, or 26
@@ -56,55 +56,43 @@ zero-other (b ∷ bs) h = sym (ne-eqb b 0 h)
 
 -- ---- by rows
 
+module _ (starts lengths : List ℕ) (places i : ℕ) where
+  pub start-missing : length starts ≤ i → Refused (record { number = tablesApart; place = 0 }) ≡ located (ofRow starts lengths places i)
+  unfolding ofRow
+  start-missing h = rw (le-leb (length starts) i h)
+
+  module _ (h : i < length starts) where
+    pub length-missing : length lengths ≤ i → Refused (record { number = tablesApart; place = 0 }) ≡ located (ofRow starts lengths places i)
+    unfolding ofRow
+    length-missing k = rw (lt-leb (length starts) i h, le-leb (length lengths) i k)
+
+    module _ (k : i < length lengths) where
+      pub row-past : places < getD starts i 0 + getD lengths i 0 → Refused (record { number = tablesApart; place = 0 }) ≡ located (ofRow starts lengths places i)
+      unfolding ofRow
+      row-past p = rw (lt-leb (length starts) i h, lt-leb (length lengths) i k, lt-ltb places (getD starts i 0 + getD lengths i 0) p)
+
+      pub row-there : getD starts i 0 + getD lengths i 0 ≤ places
+          → InRows (record { start = getD starts i 0; len = getD lengths i 0 }) ≡ located (ofRow starts lengths places i)
+      unfolding ofRow
+      row-there p = rw (lt-leb (length starts) i h, lt-leb (length lengths) i k, le-ltb places (getD starts i 0 + getD lengths i 0) p)
+
+-- b is the answer of the code's test, that the boundaries begin at 0
+module _ (bs starts lengths : List ℕ) (places c : ℕ) (b : Bool) (e : b ≡ fromZero bs) where
+  pub rows-none : not b ≡ true → ByRows bs starts lengths places c (Refused (record { number = tablesApart; place = 0 }))
+  unfolding byRow
+  rows-none n = let z : fromZero bs ≡ false = sym e ∙ not-true b n in record { row = 0; found = λ t. absurd (subst T z t); answer = rw z }
+
+  pub rows-some : not b ≡ false → (i : ℕ) → RowSought bs c i → (r : Located) → r ≡ located (ofRow starts lengths places i) → ByRows bs starts lengths places c r
+  unfolding byRow
+  rows-some n i s r d =
+      let z : fromZero bs ≡ true = sym e ∙ not-false b n in
+      record { row = i; found = λ t. sought-found bs c i t s; answer = d ∙ rw z }
+
+-- ---- the ways of a lookup
+
 or-true : (b : Bool) → (b || true) ≡ true
 or-true true = refl
 or-true false = refl
-
--- b is the answer of the code's test, that the boundaries begin at 0
-pub rows-none : (bs starts lengths : List ℕ) (places c : ℕ) (b : Bool) → b ≡ fromZero bs → not b ≡ true
-    → ByRows bs starts lengths places c (Refused (record { number = tablesApart; place = 0 }))
-unfolding byRow
-rows-none bs starts lengths places c b e n =
-    let z : fromZero bs ≡ false = sym e ∙ not-true b n in
-    record { row = 0; found = λ t. absurd (subst T z t); answer = rw z }
-
-module _ (bs starts lengths : List ℕ) (places c : ℕ) (b : Bool) (e : b ≡ fromZero bs) (n : not b ≡ false) (i : ℕ) (sought : RowSought bs c i) where
-  z : fromZero bs ≡ true
-  z = sym e ∙ not-false b n
-
-  found : T (fromZero bs) → RowFound bs c i
-  found t = sought-found bs c i t sought
-
-  pub start-missing : length starts ≤ i → ByRows bs starts lengths places c (Refused (record { number = tablesApart; place = 0 }))
-  unfolding byRow
-  start-missing h = record { row = i; found = found; answer = rw (z, le-leb (length starts) i h) }
-
-  module _ (h : i < length starts) where
-    pub length-missing : length lengths ≤ i → ByRows bs starts lengths places c (Refused (record { number = tablesApart; place = 0 }))
-    unfolding byRow
-    length-missing k = record { row = i; found = found; answer = rw (z, lt-leb (length starts) i h, le-leb (length lengths) i k) }
-
-    module _ (k : i < length lengths) where
-      pub row-past : places < getD starts i 0 + getD lengths i 0 → ByRows bs starts lengths places c (Refused (record { number = tablesApart; place = 0 }))
-      unfolding byRow
-      row-past p =
-          record {
-            row = i;
-            found = found;
-            answer = rw (z, lt-leb (length starts) i h, lt-leb (length lengths) i k, lt-ltb places (getD starts i 0 + getD lengths i 0) p);
-          }
-
-      pub row-there : getD starts i 0 + getD lengths i 0 ≤ places
-          → ByRows bs starts lengths places c (InRows (record { start = getD starts i 0; len = getD lengths i 0 }))
-      unfolding byRow
-      row-there p =
-          record {
-            row = i;
-            found = found;
-            answer = rw (z, lt-leb (length starts) i h, lt-leb (length lengths) i k, le-ltb places (getD starts i 0 + getD lengths i 0) p);
-          }
-
--- ---- the ways of a lookup
 
 module _ (t : LookupTables) (c : ℕ) where
   -- where no row counts, any that is found serves
@@ -124,13 +112,14 @@ module _ (t : LookupTables) (c : ℕ) where
 
     row-looked : (i : ℕ) → indexOdd t ≡ false → usesFlat t c ≡ false → byRow (t .boundaries) (t .starts) (t .lengths) (length (t .pool)) i ≡ lookup t c i
     unfolding lookup apart byRow rowMissing pastPool
-    row-looked i o u = rw (s, o, u) (go (not (fromZero (t .boundaries))) _ _)
+    row-looked i o u = rw (s, o, u) (go (fromZero (t .boundaries)) _ _)
       where
         go : (z m p : Bool)
-            → cond (z || m) (refuses tablesApart) (cond p (refuses tablesApart) (gives (rowPart t i))) ≡ cond (z || m || p) (refuses tablesApart) (gives (rowPart t i))
-        go true m p = refl
-        go false true p = refl
-        go false false p = refl
+            → cond z (cond m (refuses tablesApart) (cond p (refuses tablesApart) (gives (rowPart t i)))) (refuses tablesApart)
+            ≡ cond (not z || m || p) (refuses tablesApart) (gives (rowPart t i))
+        go false m p = refl
+        go true true p = refl
+        go true false p = refl
 
     by-rows : indexOdd t ≡ false → usesFlat t c ≡ false → (r : Located) → ByRows (t .boundaries) (t .starts) (t .lengths) (length (t .pool)) c r → Locates t c r
     by-rows o u r b =

@@ -3,7 +3,7 @@
 -- Assumes nothing.
 use Prim.Native.Nat.{ℕ, _+_}
 use mathlib.Core.Path.{_≡_}
-use mathlib.Core.Bool.{not, cond, _||_}
+use mathlib.Core.Bool.{cond, _||_}
 use mathlib.Core.List.{List}
 use lib.Dec.{T, leb, ltb}
 use lib.ListN.{length, getD}
@@ -21,12 +21,17 @@ unfoldable pub byFlat : (entry places : ℕ) → Looked Part
 unfolding within
 byFlat entry places = within places (record { from = ofFlat; start = entryOffset entry; len = entryLength entry })
 
--- with row i found
-unfoldable pub byRow : (boundaries starts lengths : List ℕ) → (places i : ℕ) → Looked Part
+-- row i
+unfoldable pub ofRow : (starts lengths : List ℕ) → (places i : ℕ) → Looked Part
 unfolding within
-byRow bs starts lengths places i =
-    cond (not (fromZero bs) || (leb (length starts) i || leb (length lengths) i)) (refuses tablesApart)
+ofRow starts lengths places i =
+    cond (leb (length starts) i || leb (length lengths) i) (refuses tablesApart)
     (within places (record { from = ofRows; start = getD starts i 0; len = getD lengths i 0 }))
+
+-- by rows, with row i found
+unfoldable pub byRow : (boundaries starts lengths : List ℕ) → (places i : ℕ) → Looked Part
+unfolding ofRow
+byRow bs starts lengths places i = cond (fromZero bs) (ofRow starts lengths places i) (refuses tablesApart)
 
 pub record ByRows (boundaries starts lengths : List ℕ) (places c : ℕ) (r : Located) : Type 0 where
   pub row : ℕ

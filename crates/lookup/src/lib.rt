@@ -18,7 +18,7 @@ ghost use Rattle.paper.specs.Rows.Lookup.{fromZero, packedAt};
 ghost use Rattle.paper.specs.Rows.Numbers.{lookupDefinition, categoryName};
 ghost use Rattle.name.specs.Lookup.{FindsCategory};
 ghost use Rattle.lookup.specs.Categories.{located, Locates, PartIs, packed, categoryIn, category};
-ghost use Rattle.lookup.specs.Ways.{byFlat, ByRows};
+ghost use Rattle.lookup.specs.Ways.{byFlat, ofRow, ByRows};
 ghost use Rattle.lookup.specs.Numbers.{definition, name, nameHeld};
 
 const BMP_SIZE: usize = 65536;
@@ -122,23 +122,10 @@ fn in_flat(flat_index: &[u32], places: usize, at: usize) -> Located
     Located::InFlat(Span { start, len })
 }
 
-// By rows: the part of the row that is found.
-fn in_rows(
-    boundaries: &[u32],
-    row_starts: &[u32],
-    row_lengths: &[u16],
-    places: usize,
-    c: u32,
-) -> Located
-    ensures { λ r. ⌜ ByRows (now (boundaries .entry)) (now («row_starts» .entry)) (now («row_lengths» .entry)) places c r ⌝ }
+// The part of row number `row`.
+fn of_row(row_starts: &[u32], row_lengths: &[u16], places: usize, row: usize) -> Located
+    ensures { λ r. ⌜ r ≡ located (ofRow (now («row_starts» .entry)) (now («row_lengths» .entry)) places row) ⌝ }
 {
-    if !begins_at_zero(boundaries) {
-        return Located::Refused(Refusal {
-            number: TABLES_APART,
-            place: 0,
-        });
-    }
-    let row = row::eval(boundaries, c);
     if row_starts.len() <= row {
         return Located::Refused(Refusal {
             number: TABLES_APART,
@@ -160,6 +147,25 @@ fn in_rows(
         });
     }
     Located::InRows(Span { start, len })
+}
+
+// By rows: the part of the row that is found.
+fn in_rows(
+    boundaries: &[u32],
+    row_starts: &[u32],
+    row_lengths: &[u16],
+    places: usize,
+    c: u32,
+) -> Located
+    ensures { λ r. ⌜ ByRows (now (boundaries .entry)) (now («row_starts» .entry)) (now («row_lengths» .entry)) places c r ⌝ }
+{
+    if !begins_at_zero(boundaries) {
+        return Located::Refused(Refusal {
+            number: TABLES_APART,
+            place: 0,
+        });
+    }
+    of_row(row_starts, row_lengths, places, row::eval(boundaries, c))
 }
 
 // Where the categories of a code point stand: 14 where it is no scalar value, 26 where the tables do not hold together. By the flat table for
