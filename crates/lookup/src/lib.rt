@@ -140,7 +140,8 @@ fn of_row(row_starts: &[u32], row_lengths: &[u16], places: usize, row: usize) ->
     }
     let start = row_starts[row] as usize;
     let len = row_lengths[row] as usize;
-    if places < start + len {
+    let end = start + len;
+    if places < end {
         return Located::Refused(Refusal {
             number: TABLES_APART,
             place: 0,
@@ -197,10 +198,10 @@ pub fn locate_categories(
         });
     }
     let at = c as usize;
-    if BMP_SIZE <= at {
-        return in_rows(boundaries, row_starts, row_lengths, row_pool.len(), c);
+    if at < BMP_SIZE {
+        return in_flat(flat_index, flat_pool.len(), at);
     }
-    in_flat(flat_index, flat_pool.len(), at)
+    in_rows(boundaries, row_starts, row_lengths, row_pool.len(), c)
 }
 
 // The categories of a code point, a part of the flat pool or of the row pool; empty where `locate_categories` refuses.

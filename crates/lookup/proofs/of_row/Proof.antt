@@ -29,8 +29,8 @@ shared-slice-read-len c = search needs
 cast-len : tie.Need-cast-len
 cast-len c = omega (arith, (c .shared-slice-known2 .given) (c .before .before .before .before .args .row))
 
-add-if3 : tie.Need-add-if3
-add-if3 c = omega (arith, (c .before .shared-slice-known .given) (c .before .before .before .before .args .row), (c .shared-slice-known2 .given) (c .before .before .before .before .args .row))
+add-end : tie.Need-add-end
+add-end c = omega (arith, (c .before .shared-slice-known .given) (c .before .before .before .before .args .row), (c .shared-slice-known2 .given) (c .before .before .before .before .args .row))
 
 returns-3 : tie.Need-returns-3
 returns-3 c = row-past _ _ _ _ (omega arith) (omega arith) (omega arith)
@@ -50,6 +50,6 @@ of-row-spec =
     mul-len
     shared-slice-read-len
     cast-len
-    add-if3
+    add-end
     returns-3
     returns-4)
