@@ -1,4 +1,5 @@
--- What is left of a row gives the whole. Assumes nothing.
+-- What a row notes by stamps, part after part: what is left gives the whole. A row notes at most as many numbers as there are stamps.
+-- Assumes nothing.
 use Prim.Native.Nat.{ℕ, zero, suc, _+_, _*_, _-_, _≤_, _<_}
 use native.Mathlib.Numerals.{add-one}
 use native.Mathlib.Omega.{arith}
@@ -12,9 +13,12 @@ use borrow.Author.Tests.{le-leb, lt-leb, lt-ltb, le-ltb, eq-eqb, ne-eqb, ltb-tru
 use Rattle.paper.specs.Tables.Layout.{RangeSlot}
 use Rattle.paper.specs.Tables.Lent.{got}
 use Rattle.paper.specs.Rows.Covering.{orElse}
-use Rattle.row.specs.Got.{rowGot, rowsGot, numbersGot, rowHolds, coversGot}
-use Rattle.row.specs.Stamp.{isSeen, stamped, stamps, Noted, Rowed, defaultOf}
-use Rattle.row.proofs.Turn.{rows-none, rows-more, numbers-none, numbers-more}
+use Rattle.row.specs.Slots.{slotGot, slotsGot, numbersGot, slotHolds, coversGot}
+use Rattle.row.specs.Stamps.{isSeen, stamped, stamps, Noted, Rowed}
+use Rattle.row.specs.Fallback.{fallbackRow}
+use Rattle.row.specs.declared.Fallback.{Fallback}
+use Rattle.row.specs.declared.Fallback.the-variants.{Category, Nothing}
+use Rattle.row.proofs.Turn.{slots-none, slots-more, numbers-none, numbers-more}
 
 true-false : {X : Type 0} → true ≡ false → X
 true-false e = absurd (subst lib.Dec.T e tt)
@@ -239,7 +243,7 @@ nothing c l = refl
 
 pub record Naming (s c n : ℕ) (rs l seen₀ out₀ : List ℕ) (at : ℕ) (seen out : List ℕ) (i to : ℕ) : Type 0 where
   pub upto : i ≤ n
-  pub left : Left s (coversGot c (rowsGot 0 n rs) l) seen₀ out₀ at (coversGot c (rowsGot i (n - i) rs) l) seen out to
+  pub left : Left s (coversGot c (slotsGot 0 n rs) l) seen₀ out₀ at (coversGot c (slotsGot i (n - i) rs) l) seen out to
 
 module _ (s c n : ℕ) (rs l seen₀ out₀ : List ℕ) (at : ℕ) where
   pub naming-start : Naming s c n rs l seen₀ out₀ at seen₀ out₀ 0 at
@@ -247,39 +251,37 @@ module _ (s c n : ℕ) (rs l seen₀ out₀ : List ℕ) (at : ℕ) where
       let e : n ≡ n - 0 = omega arith in
       record {
         upto = omega arith;
-        left = left-same s (coversGot c (rowsGot 0 n rs) l) seen₀ out₀ at _ _ seen₀ out₀ at (ap (λ k. coversGot c (rowsGot 0 k rs) l) e) (left-start s (coversGot c (rowsGot 0 n rs) l) seen₀ out₀ at);
+        left = left-same s (coversGot c (slotsGot 0 n rs) l) seen₀ out₀ at _ _ seen₀ out₀ at (ap (λ k. coversGot c (slotsGot 0 k rs) l) e) (left-start s (coversGot c (slotsGot 0 n rs) l) seen₀ out₀ at);
       }
 
-  module _ (seen out : List ℕ) (i to : ℕ) (h : Naming s c n rs l seen₀ out₀ at seen out i to) (lt : i < n) (b : Bool) (eb : b ≡ rowHolds c (rowGot i rs)) where
-    next-covers : coversGot c (rowGot i rs ∷ rowsGot (i + 1) (n - (i + 1)) rs) l
-        ≡ cond (rowHolds c (rowGot i rs)) (numbersGot (rowGot i rs .first) (rowGot i rs .count) l) [] ++ coversGot c (rowsGot (i + 1) (n - (i + 1)) rs) l
+  module _ (seen out : List ℕ) (i to : ℕ) (h : Naming s c n rs l seen₀ out₀ at seen out i to) (lt : i < n) (b : Bool) (eb : b ≡ slotHolds c (slotGot i rs)) where
+    next-covers : coversGot c (slotGot i rs ∷ slotsGot (i + 1) (n - (i + 1)) rs) l
+        ≡ cond (slotHolds c (slotGot i rs)) (numbersGot (slotGot i rs .first) (slotGot i rs .count) l) [] ++ coversGot c (slotsGot (i + 1) (n - (i + 1)) rs) l
     unfolding coversGot
     next-covers = refl
 
     pub naming-out : b ≡ false → Naming s c n rs l seen₀ out₀ at seen out (i + 1) to
     naming-out t =
-        let e : coversGot c (rowsGot i (n - i) rs) l ≡ coversGot c (rowsGot (i + 1) (n - (i + 1)) rs) l =
-        ap (λ k. coversGot c k l) (rows-more i n rs lt) ∙ next-covers
-        ∙ ap (λ z. cond z (numbersGot (rowGot i rs .first) (rowGot i rs .count) l) [] ++ coversGot c (rowsGot (i + 1) (n - (i + 1)) rs) l) (sym eb ∙ t) in
-        record { upto = omega arith; left = left-same s (coversGot c (rowsGot 0 n rs) l) seen₀ out₀ at _ _ seen out to e (h .left) }
+        let e : coversGot c (slotsGot i (n - i) rs) l ≡ coversGot c (slotsGot (i + 1) (n - (i + 1)) rs) l =
+        ap (λ k. coversGot c k l) (slots-more i n rs lt) ∙ next-covers
+        ∙ ap (λ z. cond z (numbersGot (slotGot i rs .first) (slotGot i rs .count) l) [] ++ coversGot c (slotsGot (i + 1) (n - (i + 1)) rs) l) (sym eb ∙ t) in
+        record { upto = omega arith; left = left-same s (coversGot c (slotsGot 0 n rs) l) seen₀ out₀ at _ _ seen out to e (h .left) }
 
     pub naming-in : (seen′ out′ : List ℕ) (to′ first count : ℕ) → b ≡ true → first ≡ got 2 (8 * i + 4) rs → count ≡ got 2 (8 * i + 6) rs
         → Noted s (numbersGot first count l) seen seen′ out out′ to to′ → Naming s c n rs l seen₀ out₀ at seen′ out′ (i + 1) to′
-    unfolding rowGot
+    unfolding slotGot
     naming-in seen′ out′ to′ first count t ef ec m =
-        let e : coversGot c (rowsGot i (n - i) rs) l ≡ numbersGot first count l ++ coversGot c (rowsGot (i + 1) (n - (i + 1)) rs) l =
-        ap (λ k. coversGot c k l) (rows-more i n rs lt) ∙ next-covers
-        ∙ ap (λ z. cond z (numbersGot (rowGot i rs .first) (rowGot i rs .count) l) [] ++ coversGot c (rowsGot (i + 1) (n - (i + 1)) rs) l) (sym eb ∙ t)
-        ∙ ap₂ (λ x y. numbersGot x y l ++ coversGot c (rowsGot (i + 1) (n - (i + 1)) rs) l) (sym ef) (sym ec) in
-        let k = left-same s (coversGot c (rowsGot 0 n rs) l) seen₀ out₀ at _ _ seen out to e (h .left) in
-        record { upto = omega arith; left = left-part s (coversGot c (rowsGot 0 n rs) l) seen₀ out₀ at _ _ seen seen′ out out′ to to′ k m }
+        let e : coversGot c (slotsGot i (n - i) rs) l ≡ numbersGot first count l ++ coversGot c (slotsGot (i + 1) (n - (i + 1)) rs) l =
+        ap (λ k. coversGot c k l) (slots-more i n rs lt) ∙ next-covers
+        ∙ ap (λ z. cond z (numbersGot (slotGot i rs .first) (slotGot i rs .count) l) [] ++ coversGot c (slotsGot (i + 1) (n - (i + 1)) rs) l) (sym eb ∙ t)
+        ∙ ap₂ (λ x y. numbersGot x y l ++ coversGot c (slotsGot (i + 1) (n - (i + 1)) rs) l) (sym ef) (sym ec) in
+        let k = left-same s (coversGot c (slotsGot 0 n rs) l) seen₀ out₀ at _ _ seen out to e (h .left) in
+        record { upto = omega arith; left = left-part s (coversGot c (slotsGot 0 n rs) l) seen₀ out₀ at _ _ seen seen′ out out′ to to′ k m }
 
-  pub naming-done : (seen out : List ℕ) (i to : ℕ) → Naming s c n rs l seen₀ out₀ at seen out i to → n ≤ i → Noted s (coversGot c (rowsGot 0 n rs) l) seen₀ seen out₀ out at to
-  naming-done seen out i to h g = left-done s (coversGot c (rowsGot 0 n rs) l) seen₀ out₀ at _ seen out to (ap (λ k. coversGot c k l) (rows-none i n rs g) ∙ nothing c l) (h .left)
+  pub naming-done : (seen out : List ℕ) (i to : ℕ) → Naming s c n rs l seen₀ out₀ at seen out i to → n ≤ i → Noted s (coversGot c (slotsGot 0 n rs) l) seen₀ seen out₀ out at to
+  naming-done seen out i to h g = left-done s (coversGot c (slotsGot 0 n rs) l) seen₀ out₀ at _ seen out to (ap (λ k. coversGot c k l) (slots-none i n rs g) ∙ nothing c l) (h .left)
 
--- ---- DEFAULT
-
--- how a row ends
+-- ---- how a row ends
 module _ (s : ℕ) (l seen₀ seen out₀ out : List ℕ) (at to : ℕ) (h : Noted s l seen₀ seen out₀ out at to) where
   pub rowed-some : (ds : List ℕ) → at < to → Rowed s l ds seen₀ seen out₀ out at to
   rowed-some ds g =
@@ -306,20 +308,18 @@ module _ (s : ℕ) (l seen₀ seen out₀ out : List ℕ) (at to : ℕ) (h : Not
   as-it-was : to ≤ at → out ≡ out₀
   as-it-was g = h .out ∙ ap (sets out₀ at) (nothing-named g)
 
-  pub rowed-default : (known : Bool) (number : ℕ) (out′ : List ℕ) → to ≤ at → known ≡ true → out′ ≡ set out at number
-      → Rowed s l (defaultOf known number) seen₀ seen out₀ out′ at (at + 1)
-  rowed-default known number out′ g k p =
-      let e : orElse (stamped s seen₀ l) (defaultOf known number) ≡ number ∷ [] =
-      ap₂ (λ x y. orElse x (defaultOf y number)) (nothing-named g) k in
+  pub rowed-fallback : (d : Fallback) (number : ℕ) (out′ : List ℕ) → to ≤ at → d ≡ Category number → out′ ≡ set out at number
+      → Rowed s l (fallbackRow d) seen₀ seen out₀ out′ at (at + 1)
+  rowed-fallback d number out′ g k p =
+      let e : orElse (stamped s seen₀ l) (fallbackRow d) ≡ number ∷ [] = ap₂ (λ x y. orElse x (fallbackRow y)) (nothing-named g) k in
       record {
         seen = h .seen;
         out = p ∙ ap (λ z. set z at number) (as-it-was g) ∙ ap (sets out₀ at) (sym e);
         count = ap (λ z. at + length z) (sym e);
       }
 
-  pub rowed-none : (known : Bool) (number : ℕ) → to ≤ at → known ≡ false → Rowed s l (defaultOf known number) seen₀ seen out₀ out at at
-  rowed-none known number g k =
-      let e : orElse (stamped s seen₀ l) (defaultOf known number) ≡ [] =
-      ap₂ (λ x y. orElse x (defaultOf y number)) (nothing-named g) k in
+  pub rowed-none : (d : Fallback) → to ≤ at → d ≡ Nothing → Rowed s l (fallbackRow d) seen₀ seen out₀ out at at
+  rowed-none d g k =
+      let e : orElse (stamped s seen₀ l) (fallbackRow d) ≡ [] = ap₂ (λ x y. orElse x (fallbackRow y)) (nothing-named g) k in
       let z : at ≡ at + 0 = omega arith in
       record { seen = h .seen; out = as-it-was g ∙ ap (sets out₀ at) (sym e); count = z ∙ ap (λ z. at + length z) (sym e) }

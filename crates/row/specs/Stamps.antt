@@ -1,5 +1,6 @@
--- First sights by stamps: a number is seen where its place holds the row's stamp, or where it has no place. Assumes nothing.
-use Prim.Native.Nat.{ℕ, _+_, _≤_}
+-- First sights by stamps: a category was seen in this row where its place holds the row's stamp. One that has no place counts as seen.
+-- Assumes nothing.
+use Prim.Native.Nat.{ℕ, _+_}
 use mathlib.Core.Path.{_≡_}
 use mathlib.Core.Bool.{Bool, true, cond}
 use mathlib.Core.List.{List, [], _∷_}
@@ -24,17 +25,13 @@ unfoldable pub stamps : ℕ → List ℕ → List ℕ → List ℕ
 stamps s seen [] = seen
 stamps s seen (x ∷ xs) = stamps s (cond (isSeen s seen x) seen (set seen x s)) xs
 
--- numbers put behind `at`, and where there is no place, counted only
+-- the numbers l noted behind `at`: those at first sight are written, and counted where there is no place
 pub record Noted (s : ℕ) (l seen₀ seen₁ out₀ out₁ : List ℕ) (at end : ℕ) : Type 0 where
   pub seen : seen₁ ≡ stamps s seen₀ l
   pub out : out₁ ≡ sets out₀ at (stamped s seen₀ l)
   pub count : end ≡ at + length (stamped s seen₀ l)
 
--- DEFAULT's number, if it is known
-abbrev pub defaultOf : Bool → ℕ → List ℕ
-defaultOf known number = cond known (number ∷ []) []
-
--- the same with DEFAULT where there is none; at most as many as there are stamps, or one
+-- the same, and `ds` where there is none at first sight
 pub record Rowed (s : ℕ) (l ds seen₀ seen₁ out₀ out₁ : List ℕ) (at end : ℕ) : Type 0 where
   pub seen : seen₁ ≡ stamps s seen₀ l
   pub out : out₁ ≡ sets out₀ at (orElse (stamped s seen₀ l) ds)
