@@ -4,8 +4,8 @@ use paper::Counts;
 use paper::FLAT_ROW_LONG;
 use paper::MAX_CATEGORIES;
 use paper::Refusal;
-use paper::TABLES_APART;
 use paper::TABLE_ROOM_SHORT;
+use paper::TABLES_APART;
 use row::Fallback;
 use row::NO_BOUNDARY;
 ghost use mathlib.Core.Path.{_≡_};
@@ -97,6 +97,22 @@ fn fill_flat(
     }
 }
 
+// The same, with the stamps.
+fn fill_fresh(
+    ranges: &[u8],
+    references: &[u8],
+    count: usize,
+    fallback: Fallback,
+    index: &mut [u32],
+    pool: &mut [u16],
+)
+    requires { ⌜ Buildable (now ranges) (now references) count (fallbackRow fallback) × (length (now index) ≤ bmpSize) ⌝ }
+    ensures { λ _. ⌜ FlatFilled (boundariesOf (slotsGot 0 count (now (ranges .entry)))) (rowsOf (fallbackRow fallback) (slotsGot 0 count (now (ranges .entry))) (now (references .entry))) (record { index = now (index .entry); pool = now (pool .entry) }) (record { index = now (index .exit); pool = now (pool .exit) }) ⌝ }
+{
+    let mut seen = [0u32; MAX_CATEGORIES];
+    fill_flat(ranges, references, count, fallback, &mut seen, index, pool);
+}
+
 // The flat table of two tables; 16, then 17, before anything is written.
 fn build_flat(
     ranges: &[u8],
@@ -130,13 +146,11 @@ fn build_flat(
             place: 0,
         });
     }
-    let mut seen = [0u32; MAX_CATEGORIES];
-    fill_flat(
+    fill_fresh(
         ranges,
         references,
         count,
         fallback,
-        &mut seen,
         &mut index[..BMP_SIZE],
         pool,
     );

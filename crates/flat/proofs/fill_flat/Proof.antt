@@ -20,7 +20,7 @@ abbrev μ-loop : tie.MeasureT-loop
 μ-loop ranges references count fallback seen₀ index₀ pool₀ b₀ rows₀ at₀ seen index pool b rows at = noBoundary - b
 
 loop-holds : tie.Need-loop-holds Inv-loop μ-loop
-loop-holds c = (walk-start _ _ _ _ ((c .before .before .before .before .before .pre .0)) _ _ ((c .before .before .before .before .before .pre .1 .0)), omega arith)
+loop-holds c = (walk-start _ _ _ _ (c .before .before .before .before .before .pre .0) _ _ (c .before .before .before .before .before .pre .1 .0), omega arith)
 
 add-covering : tie.Need-add-covering Inv-loop μ-loop
 add-covering c = omega arith
@@ -38,10 +38,10 @@ cast-spread-2 : tie.Need-cast-spread-2 Inv-loop μ-loop
 cast-spread-2 c = omega arith
 
 sub-entry-of : tie.Need-sub-entry-of Inv-loop μ-loop
-sub-entry-of c = omega (arith, row-fits _ _ _ _ ((c .before .before .before .before .before .before .before .before .before .before .before .before .before .before .before .before .pre .0)) _ _ _ _ _ _ _ ((c .before .before .before .before .before .before .before .before .before .before .loop .inv .0)) ((c .before .before .before .before .before .before .before .before .before .loop-test .taken)) _ _ _ ((c .before .before .before .before .before .before .covering .ensures)) _ ((c .before .next-boundary .ensures)))
+sub-entry-of c = omega (arith, row-fits _ _ _ _ (c .before .before .before .before .before .before .before .before .before .before .before .before .before .before .before .before .pre .0) _ _ _ _ _ _ _ (c .before .before .before .before .before .before .before .before .before .before .loop .inv .0) (c .before .before .before .before .before .before .before .before .before .loop-test .taken) _ _ _ (c .before .before .before .before .before .before .covering .ensures) _ (c .before .next-boundary .ensures))
 
 entry-of-requires : tie.Need-entry-of-requires Inv-loop μ-loop
-entry-of-requires c κs = omega (arith, row-fits _ _ _ _ ((c .before .before .before .before .before .before .before .before .before .before .before .before .before .before .before .before .pre .0)) _ _ _ _ _ _ _ ((c .before .before .before .before .before .before .before .before .before .before .loop .inv .0)) ((c .before .before .before .before .before .before .before .before .before .loop-test .taken)) _ _ _ ((c .before .before .before .before .before .before .covering .ensures)) _ ((c .before .next-boundary .ensures)))
+entry-of-requires c κs = omega (arith, row-fits _ _ _ _ (c .before .before .before .before .before .before .before .before .before .before .before .before .before .before .before .before .pre .0) _ _ _ _ _ _ _ (c .before .before .before .before .before .before .before .before .before .before .loop .inv .0) (c .before .before .before .before .before .before .before .before .before .loop-test .taken) _ _ _ (c .before .before .before .before .before .before .covering .ensures) _ (c .before .next-boundary .ensures))
 
 spread-requires : tie.Need-spread-requires Inv-loop μ-loop
 spread-requires c κs = tt
@@ -50,10 +50,10 @@ add-rows : tie.Need-add-rows Inv-loop μ-loop
 add-rows c = omega arith
 
 loop-less : tie.Need-loop-less Inv-loop μ-loop
-loop-less c = omega (arith, next-rises _ _ _ _ ((c .before .before .before .before .before .before .before .before .before .before .before .before .before .before .before .before .before .before .before .before .pre .0)) _ _ _ _ _ _ _ ((c .before .before .before .before .before .before .before .before .before .before .before .before .before .before .loop .inv .0)) ((c .before .before .before .before .before .before .before .before .before .before .before .before .before .loop-test .taken)) _ ((c .before .before .before .before .before .next-boundary .ensures)))
+loop-less c = omega (arith, next-rises _ _ _ _ (c .before .before .before .before .before .before .before .before .before .before .before .before .before .before .before .before .before .before .before .before .pre .0) _ _ _ _ _ _ _ (c .before .before .before .before .before .before .before .before .before .before .before .before .before .before .loop .inv .0) (c .before .before .before .before .before .before .before .before .before .before .before .before .before .loop-test .taken) _ (c .before .before .before .before .before .next-boundary .ensures))
 
 loop-again : tie.Need-loop-again Inv-loop μ-loop
-loop-again c = (walk-turn _ _ _ _ ((c .before .before .before .before .before .before .before .before .before .before .before .before .before .before .before .before .before .before .before .before .pre .0)) _ _ _ _ _ _ _ ((c .before .before .before .before .before .before .before .before .before .before .before .before .before .before .loop .inv .0)) ((c .before .before .before .before .before .before .before .before .before .before .before .before .before .loop-test .taken)) _ _ _ ((c .before .before .before .before .before .before .before .before .before .before .covering .ensures)) _ ((c .before .before .before .before .before .next-boundary .ensures)) _ _ ((c .before .before .before .entry-of .ensures)) ((c .before .before .spread .ensures)), row-fits _ _ _ _ ((c .before .before .before .before .before .before .before .before .before .before .before .before .before .before .before .before .before .before .before .before .pre .0)) _ _ _ _ _ _ _ ((c .before .before .before .before .before .before .before .before .before .before .before .before .before .before .loop .inv .0)) ((c .before .before .before .before .before .before .before .before .before .before .before .before .before .loop-test .taken)) _ _ _ ((c .before .before .before .before .before .before .before .before .before .before .covering .ensures)) _ ((c .before .before .before .before .before .next-boundary .ensures)) .1)
+loop-again c = (walk-turn _ _ _ _ (c .before .before .before .before .before .before .before .before .before .before .before .before .before .before .before .before .before .before .before .before .pre .0) _ _ _ _ _ _ _ (c .before .before .before .before .before .before .before .before .before .before .before .before .before .before .loop .inv .0) (c .before .before .before .before .before .before .before .before .before .before .before .before .before .loop-test .taken) _ _ _ (c .before .before .before .before .before .before .before .before .before .before .covering .ensures) _ (c .before .before .before .before .before .next-boundary .ensures) _ _ (c .before .before .before .entry-of .ensures) (c .before .before .spread .ensures), row-fits _ _ _ _ (c .before .before .before .before .before .before .before .before .before .before .before .before .before .before .before .before .before .before .before .before .pre .0) _ _ _ _ _ _ _ (c .before .before .before .before .before .before .before .before .before .before .before .before .before .before .loop .inv .0) (c .before .before .before .before .before .before .before .before .before .before .before .before .before .loop-test .taken) _ _ _ (c .before .before .before .before .before .before .before .before .before .before .covering .ensures) _ (c .before .before .before .before .before .next-boundary .ensures) .1)
 
 same-length : tie.Need-same-length Inv-loop μ-loop
 same-length c = (c .before .loop .inv .0 .long-seen)
@@ -65,7 +65,7 @@ same-length-3 : tie.Need-same-length-3 Inv-loop μ-loop
 same-length-3 c = (c .before .loop .inv .0 .long-pool)
 
 returns : tie.Need-returns Inv-loop μ-loop
-returns c = walk-done _ _ _ _ ((c .before .before .before .before .before .before .before .pre .0)) _ _ _ _ _ _ _ ((c .before .loop .inv .0)) (omega arith) ((c .before .before .before .before .before .before .before .pre .1 .1))
+returns c = walk-done _ _ _ _ (c .before .before .before .before .before .before .before .pre .0) _ _ _ _ _ _ _ (c .before .loop .inv .0) (omega arith) (c .before .before .before .before .before .before .before .pre .1 .1)
 
 pub fill-flat-spec : {M : Type 1} → statement M
 fill-flat-spec =
