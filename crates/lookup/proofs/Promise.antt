@@ -21,7 +21,7 @@ use Rattle.paper.specs.Rows.Flat.{entryOffset, entryLength, flatEntry}
 use Rattle.paper.specs.Rows.Lookup.{Looked, gives, refuses, LookupTables, Pool, ofFlat, ofRows, Part, content, usesFlat, apart, lookup, Looks, packedAt, GivesPart, FlatLeft, AsBuilt, without-flat, with-flat}
 use Rattle.paper.specs.Rows.Numbers.{numberOf, definitionAt, nameAt, lookupDefinition, categoryName, nameOf}
 use Rattle.paper.specs.Tables.Layout.{NameSlot, Tables}
-use Rattle.paper.specs.Tables.HandedIn.{HoldTogether}
+use Rattle.paper.specs.Computed.HandedIn.{handedIn}
 use Rattle.paper.specs.declared.Counts.{Counts}
 use Rattle.paper.specs.declared.Refusal.{Refusal}
 use Rattle.paper.proofs.Apart.{zero-one, refuses-gives}
@@ -29,7 +29,6 @@ use Rattle.paper.proofs.Rows.Boundaries.{boundaries-are}
 use Rattle.paper.proofs.Rows.Lookup.{no-scalar, looks-one, looks-some, flat-one, apart-exactly, packed-no-scalar, packed-same}
 use Rattle.paper.proofs.Rows.AsBuilt.{looked-up, packed-there}
 use Rattle.paper.proofs.Rows.Numbers.{number-name, number-definition}
-use Rattle.paper.proofs.Tables.Holds.{stands-handed}
 use Rattle.lookup.specs.declared.Span.{Span}
 use Rattle.lookup.specs.declared.Located.{Located}
 use Rattle.lookup.specs.declared.Located.the-variants.{InFlat, InRows, Refused}
@@ -248,9 +247,9 @@ name-refused : (store : List ℕ) (a : Looked NameSlot) (n : ℕ) → nameOf sto
 name-refused store (gives p) n h = refuses-gives (sym h)
 name-refused store (refuses k) n h = let q : k ≡ n = cc in ap (λ x. name-found.Refused (record { number = x; place = 0 })) q
 
-module _ (t : Tables) (n : Counts) (r : Reading) (h : HoldTogether t n r) (k : ℕ) where
+module _ (t : Tables) (n : Counts) (r : Reading) (h : handedIn t n ≡ some r) (k : ℕ) where
   named : nameOf (t .names) (categoryName (t .names) (t .categories) (n .categories) k) ≡ nameAt r k
-  named = number-name t n r (stands-handed t n r h) k
+  named = number-name t n r h k
 
   -- the part that is returned is the name with that number, empty where there is none
   pub held-name : nameHeld (t .names) (categoryName (t .names) (t .categories) (n .categories) k) ≡ getD (r .names) k []
@@ -266,4 +265,4 @@ module _ (t : Tables) (n : Counts) (r : Reading) (h : HoldTogether t n r) (k : �
 
   -- the definition with that number, 15 exactly where there is none
   pub defined : definition (lookupDefinition (t .definitions) (n .definitions) k) ≡ definition (definitionAt r k)
-  defined = ap definition (number-definition t n r (stands-handed t n r h) k)
+  defined = ap definition (number-definition t n r h k)
