@@ -40,20 +40,22 @@ unfolding packWritten writeRoomShort
 room-is q m b e = ap (λ x. cond x (refusedBy packRoomShort) built) e
 
 -- 26
-pub apart : (t : Tables) (n : Counts) (lent : List ℕ) → holds t n ≡ false → WritesPack t n lent lent (Refused (record { number = tablesApart; place = 0 }))
+pub apart : (t : Tables) (n : Counts) (lent : List ℕ) (number : ℕ) → number ≡ tablesApart → holds t n ≡ false
+    → WritesPack t n lent lent (Refused (record { number = number; place = 0 }))
 unfolding packWritten
-apart t n lent e = promised t n lent lent _ none (refusedBy tablesApart) (handed-is t n false e) refl refl refl
+apart t n lent number d e =
+    promised t n lent lent _ none (refusedBy tablesApart) (handed-is t n false e) refl (ap (λ k. Refused (record { number = k; place = 0 })) d) refl
 
 module _ (t : Tables) (n : Counts) (lent : List ℕ) (u : T (holds t n)) where
   handed : handedIn t n ≡ some (decoded t n)
   handed = handed-is t n true (T→true (holds t n) u)
 
   -- 22
-  pub short : length lent < packLength n → WritesPack t n lent lent (Refused (record { number = packRoomShort; place = 0 }))
-  short h =
+  pub short : (number : ℕ) → number ≡ packRoomShort → length lent < packLength n → WritesPack t n lent lent (Refused (record { number = number; place = 0 }))
+  short number d h =
       let e = length-is t n u in
       let is = room-is (decoded t n) (length lent) true (lt-ltb (length lent) (length (packBytes (decoded t n))) (omega arith)) in
-      promised t n lent lent _ (some (decoded t n)) (refusedBy packRoomShort) handed is refl refl
+      promised t n lent lent _ (some (decoded t n)) (refusedBy packRoomShort) handed is (ap (λ k. Refused (record { number = k; place = 0 })) d) refl
 
   pub written : (need : ℕ) (after : List ℕ) → need ≡ packLength n → need ≤ length lent
       → after ≡ packBytes (decoded t n) ++ drop (length (packBytes (decoded t n))) lent → WritesPack t n lent after (Length need)

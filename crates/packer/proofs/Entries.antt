@@ -10,11 +10,12 @@ use lib.Dec.{eqb}
 use lib.ListN.{length, take, drop, getD, length-drop}
 use lib.Seq.{drop-drop, getD-take, getD-drop, take-suc}
 use Rattle.paper.specs.Lists.{joined, sum}
-use Rattle.paper.specs.Pack.Fields.{Field, field, flag, definitionFields}
+use Rattle.paper.specs.Pack.Fields.{version, versionWidth, categoriesWidth, linesWidth, rangesWidth, referencesWidth, Field, field, flag, definitionFields}
 use Rattle.paper.specs.Tables.Layout.{definitionSize, referenceSize, invokeAt, groupAt, definitionOf, pieces}
 use Rattle.paper.specs.Tables.Lent.{num, got}
 use Rattle.paper.proofs.Lists.Facts.{map-append, joined-map, sum-append}
-use Rattle.packer.specs.Writer.{numbersFrom}
+use Rattle.paper.specs.declared.Counts.{Counts}
+use Rattle.packer.specs.Writer.{numbersFrom, headOf}
 use Rattle.hold.proofs.Turn.{entry}
 use Rattle.hold.proofs.Entries.{first-got}
 
@@ -86,24 +87,31 @@ definition-fields i invoke group length′ l long ei eg el =
 
 -- ---- bytes of the name store, and references: one more
 
-field-more : (w : ℕ) (xs ys : List ℕ) (x : ℕ) → ys ≡ xs ++ (x ∷ []) → map (field w) xs ++ (field w x ∷ []) ≡ map (field w) ys
-field-more w xs ys x e = sym (ap (map (field w)) e ∙ map-append (field w) xs (x ∷ []))
+field-more : (w v : ℕ) (xs ys : List ℕ) (x : ℕ) → v ≡ w → ys ≡ xs ++ (x ∷ []) → map (field w) xs ++ (field v x ∷ []) ≡ map (field w) ys
+field-more w v xs ys x d e = ap (λ k. map (field w) xs ++ (field k x ∷ [])) d ∙ sym (ap (map (field w)) e ∙ map-append (field w) xs (x ∷ []))
 
-pub byte-more : (w first i b : ℕ) (l : List ℕ) → first + i < length l → b ≡ getD l (first + i) 0
-    → map (field w) (take i (drop first l)) ++ (field w b ∷ []) ≡ map (field w) (take (i + 1) (drop first l))
-byte-more w first i b l h e =
-    field-more w (take i (drop first l)) (take (i + 1) (drop first l)) b
+pub byte-more : (w v first i b : ℕ) (l : List ℕ) → v ≡ w → first + i < length l → b ≡ getD l (first + i) 0
+    → map (field w) (take i (drop first l)) ++ (field v b ∷ []) ≡ map (field w) (take (i + 1) (drop first l))
+byte-more w v first i b l d h e =
+    field-more w v (take i (drop first l)) (take (i + 1) (drop first l)) b d
     (ap (λ k. take k (drop first l)) (add-one i) ∙ take-suc (drop first l) i 0 (simp length-drop (omega arith))
     ∙ ap (λ x. take i (drop first l) ++ (x ∷ [])) (getD-drop first l i 0 ∙ sym e))
 
-pub number-more : (w first i x : ℕ) (l : List ℕ) → referenceSize * (first + i) + referenceSize ≤ length l → x ≡ got 2 (referenceSize * (first + i)) l
-    → map (field w) (numbersFrom first i l) ++ (field w x ∷ []) ≡ map (field w) (numbersFrom first (i + 1) l)
+pub number-more : (w v first i x : ℕ) (l : List ℕ) → v ≡ w → referenceSize * (first + i) + referenceSize ≤ length l → x ≡ got 2 (referenceSize * (first + i)) l
+    → map (field w) (numbersFrom first i l) ++ (field v x ∷ []) ≡ map (field w) (numbersFrom first (i + 1) l)
 unfolding numbersFrom
-number-more w first i x l h e =
+number-more w v first i x l q h e =
     let d : referenceSize * first + referenceSize * i ≡ referenceSize * (first + i) = omega arith in
     let here : entry referenceSize (first + i) l ≡ entry referenceSize i (drop (referenceSize * first) l) =
     sym (ap (take referenceSize) (drop-drop (referenceSize * i) (referenceSize * first) l ∙ ap (λ k. drop k l) d)) in
-    field-more w (numbersFrom first i l) (numbersFrom first (i + 1) l) x
+    field-more w v (numbersFrom first i l) (numbersFrom first (i + 1) l) x q
     (ap (map (num referenceSize 0)) (pieces-more referenceSize i (drop (referenceSize * first) l))
     ∙ map-append (num referenceSize 0) (pieces referenceSize i (drop (referenceSize * first) l)) (entry referenceSize i (drop (referenceSize * first) l) ∷ [])
     ∙ ap (λ y. numbersFrom first i l ++ (y ∷ [])) (sym (e ∙ first-got 2 referenceSize (first + i) l (omega arith) h ∙ ap (num 2 0) here)))
+
+-- ---- the head
+
+pub head-fields : (v c d g r : ℕ) (n : Counts) → v ≡ version → c ≡ n .categories → d ≡ n .definitions → g ≡ n .ranges → r ≡ n .references
+    → _≡_ {A = List Field} (field versionWidth v ∷ field categoriesWidth c ∷ field linesWidth d ∷ field rangesWidth g ∷ field referencesWidth r ∷ []) (headOf n)
+unfolding headOf
+head-fields v c d g r n ev ec ed eg er = rw (ev, ec, ed, eg, er)

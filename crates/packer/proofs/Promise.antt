@@ -49,34 +49,32 @@ roomRefused = Refused (record { number = packRoomShort; place = 0 })
 abbrev pub apartRefused : Written
 apartRefused = Refused (record { number = tablesApart; place = 0 })
 
-module _ {t : Tables} {n : Counts} {lent after : List ℕ} {r : Written} (p : WritesPack t n lent after r) where
-  by-case : (o : Option Reading) (b : Built) → handedIn t n ≡ o → packWritten o (length lent) ≡ b
-      → (r ≡ given b (packOf o)) × (after ≡ leaves b (packOf o) lent)
-  by-case o b eo eb =
-      let e : packWritten (handedIn t n) (length lent) ≡ b = ap (λ x. packWritten x (length lent)) eo ∙ eb in
-      (p .answer ∙ rw (e, eo), p .memory ∙ rw (e, eo))
+by-case : {t : Tables} {n : Counts} {lent after : List ℕ} {r : Written} → WritesPack t n lent after r → (o : Option Reading) (b : Built) → handedIn t n ≡ o
+    → packWritten o (length lent) ≡ b → (r ≡ given b (packOf o)) × (after ≡ leaves b (packOf o) lent)
+by-case {t} {n} {lent} p o b eo eb =
+    let e : packWritten (handedIn t n) (length lent) ≡ b = ap (λ x. packWritten x (length lent)) eo ∙ eb in
+    (p .answer ∙ rw (e, eo), p .memory ∙ rw (e, eo))
 
-  module _ (q : Reading) (h : HoldTogether t n q) where
-    handed : handedIn t n ≡ some q
-    handed = stands-handed t n q h
+module _ {t : Tables} {n : Counts} {lent after : List ℕ} {r : Written} (p : WritesPack t n lent after r) (q : Reading) (h : HoldTogether t n q) where
+  handed : handedIn t n ≡ some q
+  handed = stands-handed t n q h
 
-    -- the room is long enough: the pack's length, the pack's bytes, and what lies behind them as it was
-    pub room-enough : length (packBytes q) ≤ length lent → (r ≡ Length (length (packBytes q))) × (after ≡ packBytes q ++ drop (length (packBytes q)) lent)
-    room-enough k = by-case (some q) built handed (room-is q (length lent) false (le-ltb (length lent) (length (packBytes q)) k))
+  -- the room is long enough: the pack's length, the pack's bytes, and what lies behind them as it was
+  pub room-enough : length (packBytes q) ≤ length lent → (r ≡ Length (length (packBytes q))) × (after ≡ packBytes q ++ drop (length (packBytes q)) lent)
+  room-enough k = by-case p (some q) built handed (room-is q (length lent) false (le-ltb (length lent) (length (packBytes q)) k))
 
-    -- it is not: 22, and nothing is changed
-    pub room-short : length lent < length (packBytes q) → (r ≡ roomRefused) × (after ≡ lent)
-    room-short k = by-case (some q) (refusedBy packRoomShort) handed (room-is q (length lent) true (lt-ltb (length lent) (length (packBytes q)) k))
+  -- it is not: 22, and nothing is changed
+  pub room-short : length lent < length (packBytes q) → (r ≡ roomRefused) × (after ≡ lent)
+  room-short k = by-case p (some q) (refusedBy packRoomShort) handed (room-is q (length lent) true (lt-ltb (length lent) (length (packBytes q)) k))
 
-    -- "No pack exceeds 40,519 bytes": in such a room every pack is written
-    pub always-written : maxPackBytes ≤ length lent → r ≡ Length (length (packBytes q))
-    always-written k = let m : length (packBytes q) ≤ maxPackBytes = pack-length q (h .rules .limits) in room-enough (omega arith) .0
+  -- "No pack exceeds 40,519 bytes": in such a room every pack is written
+  pub always-written : maxPackBytes ≤ length lent → r ≡ Length (length (packBytes q))
+  always-written k = let m : length (packBytes q) ≤ maxPackBytes = pack-length q (h .rules .limits) in room-enough (omega arith) .0
 
-  -- ---- where none stands: 26, and nothing is changed
-
-  pub none-stands : handedIn t n ≡ none → (r ≡ apartRefused) × (after ≡ lent)
-  unfolding packWritten
-  none-stands e = by-case none (refusedBy tablesApart) e refl
+-- none stands in them: 26, and nothing is changed
+pub none-stands : {t : Tables} {n : Counts} {lent after : List ℕ} {r : Written} → WritesPack t n lent after r → handedIn t n ≡ none → (r ≡ apartRefused) × (after ≡ lent)
+unfolding packWritten
+none-stands p e = by-case p none (refusedBy tablesApart) e refl
 
 -- ---- the three answers, each given exactly when; what tables hold is bytes
 
@@ -164,32 +162,33 @@ module _ {t : Tables} {n : Counts} {lent after : List ℕ} {r : Written} (b : Of
       to (is-short w e m) = m
       to (is-apart w e m) = m
 
-  -- ---- the pack that is written
+-- ---- the pack that is written
 
-  module _ (k : ℕ) (e : r ≡ Length k) where
-    -- "No pack exceeds 40,519 bytes"
-    pub never-over : k ≤ maxPackBytes
-    never-over =
-        let w = written-exactly k .0 e in
-        let l = w .long in
-        let m : length (packBytes (w .reading)) ≤ maxPackBytes = pack-length (w .reading) (w .stands .rules .limits) in
-        omega arith
+module _ {t : Tables} {n : Counts} {lent after : List ℕ} {r : Written} (b : OfBytes t) (p : WritesPack t n lent after r) (k : ℕ) (e : r ≡ Length k) where
+  -- "No pack exceeds 40,519 bytes"
+  pub never-over : k ≤ maxPackBytes
+  never-over =
+      let w = written-exactly b p k .0 e in
+      let l = w .long in
+      let m : length (packBytes (w .reading)) ≤ maxPackBytes = pack-length (w .reading) (w .stands .rules .limits) in
+      omega arith
 
-    module _ (q : Reading) (h : HoldTogether t n q) where
-      long-is : (k ≡ length (packBytes q)) × (k ≤ length lent)
-      long-is = let w = written-exactly k .0 e in (w .long ∙ ap (λ x. length (packBytes x)) (handed-one t n (w .reading) q (w .stands) h), w .room)
+  long-is : (q : Reading) → HoldTogether t n q → (k ≡ length (packBytes q)) × (k ≤ length lent)
+  long-is q h =
+      let w = written-exactly b p k .0 e in
+      (w .long ∙ ap (λ x. length (packBytes x)) (handed-one t n (w .reading) q (w .stands) h), w .room)
 
-      -- the pack of the reading that stands in the tables, and nothing behind it is touched
-      pub pack-written : (take k after ≡ packBytes q) × (drop k after ≡ drop k lent)
-      pack-written =
-          let (l, f) = long-is in
-          let m : after ≡ packBytes q ++ drop (length (packBytes q)) lent = room-enough p q h (omega arith) .1 in
-          (ap (take k) m ∙ take-at (packBytes q) _ k (sym l), ap (drop k) m ∙ drop-at (packBytes q) _ k (sym l) ∙ ap (λ i. drop i lent) (sym l))
+  -- the pack of the reading that stands in the tables, and nothing behind it is touched
+  pub pack-written : (q : Reading) → HoldTogether t n q → (take k after ≡ packBytes q) × (drop k after ≡ drop k lent)
+  pack-written q h =
+      let (l, f) = long-is q h in
+      let m : after ≡ packBytes q ++ drop (length (packBytes q)) lent = room-enough p q h (omega arith) .1 in
+      (ap (take k) m ∙ take-at (packBytes q) _ k (sym l), ap (drop k) m ∙ drop-at (packBytes q) _ k (sym l) ∙ ap (λ i. drop i lent) (sym l))
 
-      -- DEMAND 2: it is read back as that reading
-      pub read-back : readPack (take k after) ≡ accepted q
-      read-back = ap readPack (pack-written .0) ∙ write-read q (h .rules)
+  -- DEMAND 2: it is read back as that reading
+  pub read-back : (q : Reading) → HoldTogether t n q → readPack (take k after) ≡ accepted q
+  read-back q h = ap readPack (pack-written q h .0) ∙ write-read q (h .rules)
 
-      -- DEMAND 2: where the reading was read from a pack, its bytes are written again
-      pub same-bytes : (pack : List ℕ) → T (all isByte pack) → readPack pack ≡ accepted q → take k after ≡ pack
-      same-bytes pack a d = pack-written .0 ∙ read-write pack q a d
+  -- DEMAND 2: where the reading was read from a pack, its bytes are written again
+  pub same-bytes : (q : Reading) → HoldTogether t n q → (pack : List ℕ) → T (all isByte pack) → readPack pack ≡ accepted q → take k after ≡ pack
+  same-bytes q h pack a d = pack-written q h .0 ∙ read-write pack q a d

@@ -40,19 +40,19 @@ whole-is s pad whole few b e =
 none-wait : (w : BitWriter) → w .waiting ≡ 0 → waitingBits w ≡ []
 none-wait w e = ap (λ k. bits k (w .held)) e
 
-pub pack-whole : (q : Reading) (pad : ℕ) {n : ℕ} {lent a after : List ℕ} {w r : BitWriter} → Puts lent start (packFields q) n a w
-    → pad ≡ (byteWidth - w .waiting) % byteWidth → Puts a w (field pad 0 ∷ []) pad after r
+pub pack-whole : (q : Reading) (pad : ℕ) {n v : ℕ} {lent a after : List ℕ} {w r : BitWriter} → Puts lent start (packFields q) n a w
+    → Puts a w (field pad v ∷ []) pad after r → pad ≡ (byteWidth - w .waiting) % byteWidth → v ≡ 0
     → after ≡ packBytes q ++ drop (length (packBytes q)) lent
 unfolding packBytes packBits
-pack-whole q pad {n} {lent} {a} {after} {w} {r} x e y =
+pack-whole q pad {n} {v} {lent} {a} {after} {w} {r} x y e d =
     let fw = x .few in
     let fr = y .few in
     let m = y .moved in
     let few : pad < byteWidth = omega arith in
     let none : r .waiting ≡ 0 = omega arith in
-    let z : Writes lent start (packFields q ++ (field pad 0 ∷ [])) after r = puts-both x y .writes in
+    let z : Writes lent start (packFields q ++ (field pad v ∷ [])) after r = puts-both x y .writes in
     let spelt : packBits q ++ bits pad 0 ≡ bitsOf (z .whole) =
-    ap (λ l. packBits q ++ l) (sym (append-nil (bits pad 0))) ∙ sym (spell-append (packFields q) (field pad 0 ∷ [])) ∙ z .spelt
+    ap (λ k. packBits q ++ bits pad k) (sym d) ∙ ap (λ l. packBits q ++ l) (sym (append-nil (bits pad v))) ∙ sym (spell-append (packFields q) (field pad v ∷ [])) ∙ z .spelt
     ∙ ap (λ l. bitsOf (z .whole) ++ l) (none-wait r none) ∙ append-nil (bitsOf (z .whole)) in
     let is : packBytes q ≡ z .whole = whole-is (packBits q) pad (z .whole) few (z .are-bytes) spelt in
     let on : r .at ≡ length (z .whole) = let o = z .on in omega arith in

@@ -44,8 +44,8 @@ loop-again c = (
   omega arith,
   puts-are (puts-both (c .before .before .before .before .before .before .before .loop .inv .1)
       (c .before .before .put .ensures))
-      (byte-more byteWidth (c .before .before .before .before .before .before .before .before .before .before .args .first)
-      (c .before .before .before .before .before .before .before .loop .i) _ _ (omega arith)
+      (byte-more byteWidth _ (c .before .before .before .before .before .before .before .before .before .before .args .first)
+      (c .before .before .before .before .before .before .before .loop .i) _ _ (omega arith) (omega arith)
       (c .before .before .before .wide .ensures))
       (omega arith),
 )

@@ -47,9 +47,9 @@ returns c =
     (puts-both (c .before .before .before .before .before .before .put2 .ensures)
     (c .before .before .put3 .ensures)))
     (definition-fields (b .before .before .before .before .before .before .before .args .i) _ _ _ _ (omega arith)
-    (b .before .before .before .before .flag-at .ensures)
-    (b .before .before .before .flag-at2 .ensures)
-    (b .before .before .get-u32 .ensures))
+    (omega (arith, b .before .before .before .before .flag-at .ensures))
+    (omega (arith, b .before .before .before .flag-at2 .ensures))
+    (omega (arith, b .before .before .get-u32 .ensures)))
     refl
 
 pub put-definition-spec : {M : Type 1} → statement M

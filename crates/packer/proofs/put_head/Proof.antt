@@ -1,6 +1,8 @@
 -- `packer::put_head` meets its contract: five fields, one behind another. Assumes nothing.
-use Rattle.packer.specs.Writer.{headOf}
-use Rattle.packer.proofs.Writing.{puts-both}
+use Rattle.packer.proofs.Writing.{puts-both, puts-are}
+use Rattle.packer.proofs.Entries.{head-fields}
+use native.Mathlib.Omega.{arith}
+use mathlib.Core.Path.{refl}
 use borrow.Author.Needs.{needs}
 use Rattle.packer.proofs.put_head.Statement.{statement}
 use Rattle.packer.proofs.put_head.Tie as tie
@@ -24,14 +26,14 @@ same-length : tie.Need-same-length
 same-length c = search needs
 
 returns : tie.Need-returns
-unfolding headOf
 returns c =
     let b = c .before .before .before .before .before .before .before .before .before .before .before .before .before .before in
-    puts-both (b .before .before .before .before .put .ensures)
+    puts-are (puts-both (b .before .before .before .before .put .ensures)
     (puts-both (b .put2 .ensures)
     (puts-both (c .before .before .before .before .before .before .before .before .before .before .put3 .ensures)
     (puts-both (c .before .before .before .before .before .before .put4 .ensures)
-    (c .before .before .put5 .ensures))))
+    (c .before .before .put5 .ensures)))))
+    (head-fields _ _ _ _ _ _ (omega arith) (omega arith) (omega arith) (omega arith) (omega arith)) refl
 
 pub put-head-spec : {M : Type 1} → statement M
 put-head-spec =

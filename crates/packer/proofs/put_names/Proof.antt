@@ -64,10 +64,10 @@ loop-again : tie.Need-loop-again Inv-loop μ-loop
 loop-again c = (
   omega arith,
   (
-    (name-sum _ _ _ _ _ (c .before .before .before .before .before .loop-test .taken)
+    (let s = name-sum _ _ _ _ _ (c .before .before .before .before .before .loop-test .taken)
         (c .before .before .before .before .before .before .before .before .before .before .pre .0)
         (c .before .before .before .before .get-u16 .ensures)
-        (c .before .before .before .before .before .before .loop .inv .1 .0)),
+        (c .before .before .before .before .before .before .loop .inv .1 .0) in omega arith),
     puts-are (puts-both (c .before .before .before .before .before .before .loop .inv .1 .1)
         (c .before .before .put-name .ensures))
         (name-more _ _ _ _ _ (c .before .before .before .before .before .loop-test .taken)

@@ -85,10 +85,10 @@ loop-again : tie.Need-loop-again Inv-loop μ-loop
 loop-again c = (
   omega arith,
   (
-    (range-sum _ _ _ _ _ (c .before .before .before .before .before .before .before .before .before .before .before .loop-test .taken)
+    (let s = range-sum _ _ _ _ _ (c .before .before .before .before .before .before .before .before .before .before .before .loop-test .taken)
         (c .before .before .before .before .before .before .before .before .before .before .before .before .before .before .before .before .pre .0)
         (c .before .before .before .before .before .before .before .before .get-u163 .ensures)
-        (c .before .before .before .before .before .before .before .before .before .before .before .before .loop .inv .1 .0)),
+        (c .before .before .before .before .before .before .before .before .before .before .before .before .loop .inv .1 .0) in omega arith),
     puts-are (puts-both (c .before .before .before .before .before .before .before .before .before .before .before .before .loop .inv .1 .1)
         (puts-both (c .before .before .before .before .before .before .put-bounds .ensures)
         (c .before .before .put-references .ensures)))

@@ -48,8 +48,8 @@ loop-again c = (
   omega arith,
   puts-are (puts-both (c .before .before .before .before .before .before .loop .inv .1)
       (c .before .before .put .ensures))
-      (number-more numberWidth (c .before .before .before .before .before .before .before .before .before .args .first)
-      (c .before .before .before .before .before .before .loop .i) _ _ (omega arith)
+      (number-more numberWidth _ (c .before .before .before .before .before .before .before .before .before .args .first)
+      (c .before .before .before .before .before .before .loop .i) _ _ (omega arith) (omega arith)
       (c .before .before .before .before .get-u16 .ensures))
       (omega arith),
 )

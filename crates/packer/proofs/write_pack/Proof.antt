@@ -13,13 +13,13 @@ reading-holds-requires : tie.Need-reading-holds-requires
 reading-holds-requires c κs = search needs
 
 returns : tie.Need-returns
-returns c = apart _ _ _ (sym (c .before .reading-holds .ensures) ∙ not-true _ (c .if1 .taken))
+returns c = apart _ _ _ _ (omega arith) (sym (c .before .reading-holds .ensures) ∙ not-true _ (c .if1 .taken))
 
 pack-length-requires : tie.Need-pack-length-requires
 pack-length-requires c κs = limited _ _ (asked _ _ (passed _ _ (c .before .reading-holds .ensures) (c .if1 .left)))
 
 returns-2 : tie.Need-returns-2
-returns-2 c = short _ _ _ (passed _ _ (c .before .before .before .reading-holds .ensures) (c .before .before .if1 .left)) (omega arith)
+returns-2 c = short _ _ _ (passed _ _ (c .before .before .before .reading-holds .ensures) (c .before .before .if1 .left)) _ (omega arith) (omega arith)
 
 put-pack-requires : tie.Need-put-pack-requires
 put-pack-requires c κs = (passed _ _ (c .before .before .before .before .reading-holds .ensures) (c .before .before .before .if1 .left), omega arith)
@@ -29,9 +29,10 @@ same-length c = search needs
 
 returns-3 : tie.Need-returns-3
 returns-3 c =
-    let b = c .before .before .before .before .before .before in
-    written _ _ _ (passed _ _ (b .before .reading-holds .ensures) (b .if1 .left)) _ _ (c .before .before .before .before .before .pack-length .ensures) (omega arith)
-    (c .before .before .put-pack .ensures)
+    written _ _ _
+    (passed _ _ (c .before .before .before .before .before .before .before .reading-holds .ensures)
+    (c .before .before .before .before .before .before .if1 .left))
+    _ _ (c .before .before .before .before .before .pack-length .ensures) (omega arith) (c .before .before .put-pack .ensures)
 
 pub write-pack-spec : {M : Type 1} → statement M
 write-pack-spec =

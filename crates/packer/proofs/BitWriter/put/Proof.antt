@@ -57,8 +57,10 @@ same-length c = c .before .loop .inv .same-length
 
 returns : tie.Need-returns Inv-loop μ-loop
 returns c =
-    emits-all _ (c .before .before .before .before .before .args .self) _ _ _ (joined-up _ _ _ _ (c .before .before .before .wide .ensures) (omega arith) (omega arith))
-    (c .before .loop .inv) (omega arith)
+    let b = c .before .before .before in
+    let self = b .before .before .args .self in
+    let e = joined-up (b .wide .result) (self .held) (b .before .before .args .value) (b .before .before .args .width) (b .wide .ensures) (omega arith) (omega arith) in
+    emits-all _ self _ _ _ (omega (arith, e)) (c .before .loop .inv) (omega arith)
 
 pub put-spec : {M : Type 1} → statement M
 put-spec =
