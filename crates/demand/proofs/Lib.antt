@@ -1,0 +1,4 @@
+-- The demands are met.
+pub mod Demand1
+pub mod Demand3
+pub mod Demand2

@@ -1,0 +1,4 @@
+-- The user's demands, a file for each.
+pub mod Demand1
+pub mod Demand2
+pub mod Demand3
