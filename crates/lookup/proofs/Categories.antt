@@ -15,7 +15,8 @@ use Rattle.paper.specs.Refusals.{notScalar, tablesApart}
 use Rattle.paper.specs.Lists.{empty}
 use Rattle.paper.specs.Text.Scalar.{isScalar}
 use Rattle.paper.specs.Rows.Flat.{RowFound, entryOffset, entryLength}
-use Rattle.paper.specs.Rows.Lookup.{Looked, gives, refuses, LookupTables, Pool, ofFlat, ofRows, Part, content, usesFlat, flatPart, rowPart, indexOdd, fromZero, rowMissing, pastPool, apart, lookup, Looks}
+use Rattle.paper.specs.Rows.Lookup.{Looked, gives, refuses, LookupTables, Pool, ofFlat, ofRows, Part, content, usesFlat, flatPart, rowPart}
+use Rattle.paper.specs.Rows.Lookup.{indexOdd, fromZero, rowMissing, pastPool, apart, lookup, Looks}
 use Rattle.paper.specs.declared.Refusal.{Refusal}
 use Rattle.paper.proofs.Apart.{zero-one, refuses-gives}
 use Rattle.paper.proofs.Rows.Lookup.{looks-some}

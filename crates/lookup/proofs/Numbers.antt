@@ -77,7 +77,8 @@ module _ (store l : List ℕ) (count k : ℕ) where
       slot-is : nameSlotOf (entryAt nameSlotSize l k) ≡ record { start = start; len = len }
       slot-is =
           let long : nameSlotSize * k + nameSlotSize ≤ length l = omega arith in
-          sym (ap₂ (λ a b. record { start = a; len = b }) (es ∙ first-at nameSlotSize k l long 2 (omega arith)) (el ∙ number-at nameSlotSize k l long 2 nameLenAt (omega arith)))
+          sym (ap₂ (λ a b. record { start = a; len = b }) (es ∙ first-at nameSlotSize k l long 2 (omega arith))
+          (el ∙ number-at nameSlotSize k l long 2 nameLenAt (omega arith)))
 
       pub name-past : length store < start + len → name-found.Refused (record { number = tablesApart; place = 0 }) ≡ name (categoryName store l count k)
       unfolding categoryName
