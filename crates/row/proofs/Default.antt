@@ -5,19 +5,18 @@ use native.Mathlib.Omega.{arith}
 use mathlib.Core.Path.{_≡_, refl, sym, ap, _∙_, subst}
 use mathlib.Core.Bool.{Bool, true, false, cond, _||_}
 use mathlib.Core.List.{List, [], _∷_, map}
-use mathlib.Core.Option.{Option, none, some}
+use mathlib.Core.Option.{none, some}
 use lib.Dec.{T, ltb}
 use lib.ListN.{length, length-map}
 use Rattle.paper.specs.Refusals.{tablesApart}
 use Rattle.paper.specs.Lists.{any, positionOf, same}
-use Rattle.paper.specs.CharDef.Reading.{Reading}
 use Rattle.paper.specs.Rows.Covering.{default, defaults}
-use Rattle.paper.specs.Rows.Lookup.{Looked, gives, refuses}
+use Rattle.paper.specs.Rows.Lookup.{gives, refuses}
 use Rattle.paper.specs.Rows.Numbers.{nameSlotsOf, nameIn, pastStore, lowestNamed, findName}
 use Rattle.paper.specs.Tables.Layout.{Tables, pieces, nameSlotOf, nameSlotSize}
 use Rattle.paper.specs.Computed.HandedIn.{decoded, holds, handedIn}
 use Rattle.paper.specs.declared.Counts.{Counts}
-use Rattle.paper.proofs.Apart.{refuses-gives}
+use Rattle.paper.proofs.Apart.{nil-cons, refuses-gives}
 use Rattle.paper.proofs.Lists.Facts.{T→true}
 use Rattle.paper.proofs.Rows.Lowest.{lowest-first}
 use Rattle.paper.proofs.Rows.Numbers.{name-found}
@@ -28,6 +27,13 @@ use Rattle.name.specs.declared.CategoryFound.the-variants.{Category}
 use Rattle.row.specs.Fallback.{fallbackRow, foundRow}
 use Rattle.row.specs.declared.Fallback.{Fallback}
 use Rattle.row.specs.declared.Fallback.the-variants.{Category as Default, Nothing}
+
+-- the row tells the case
+pub fallback-one : (a b : Fallback) → fallbackRow a ≡ fallbackRow b → a ≡ b
+fallback-one (Default x) (Default y) e = let f : x ≡ y = cc in ap Default f
+fallback-one (Default x) Nothing e = nil-cons (sym e)
+fallback-one Nothing (Default y) e = nil-cons e
+fallback-one Nothing Nothing e = refl
 
 pub one-fallback : (d : Fallback) → length (fallbackRow d) ≤ 1
 one-fallback (Default number) = omega arith

@@ -3,7 +3,7 @@
 use Prim.Native.Nat.{ℕ, zero, suc, _+_, _*_, _<_, _≤_}
 use native.Mathlib.Omega.{arith}
 use mathlib.Core.Path.{_≡_, refl, sym, ap, ap₂, _∙_, subst}
-use mathlib.Core.Bool.{Bool, true, false, cond, _&&_}
+use mathlib.Core.Bool.{Bool, true, false, cond}
 use mathlib.Core.List.{List, [], _∷_, _++_, map}
 use lib.Dec.{T, leb, ltb, eqb}
 use lib.ListN.{length, take, drop}
@@ -11,7 +11,7 @@ use lib.Seq.{drop-drop}
 use mir.Facts.{and-yes, yes-and, leb-yes, ltb-yes, yes-ltb, eqb-yes}
 use Rattle.paper.specs.Sizes.{maxCategories, maxRanges}
 use Rattle.paper.specs.Lists.{all, select, joined, firstSeen}
-use Rattle.paper.specs.CharDef.Reading.{Range, Reading}
+use Rattle.paper.specs.CharDef.Reading.{Range}
 use Rattle.paper.specs.Rows.Covering.{orElse, ascending, boundaries, rangeHolds, covers, named, defaults, categoriesAt, rows}
 use Rattle.paper.specs.Computed.HandedIn.{slotsStand, slotsIn, numbersIn, decoded, holds, enough, nameSlotsStand, nameSlotsIn, flagged}
 use Rattle.paper.specs.Pack.Rules.{isBound}
@@ -110,9 +110,15 @@ ends-fit total at (r ∷ rs) t =
     yes-and (ltb (r .lower) noBoundary) _ (yes-ltb (s .low))
     (yes-and (ltb (r .upper + 1) noBoundary) _ (yes-ltb (s .high)) (ends-fit total (at + r .count) rs (s .more)))
 
--- the categories of the ranges that hold c
+-- a slot's range with the categories ns, and the categories of the ranges that hold c
+abbrev rangeOf : RangeSlot → List ℕ → Range
+rangeOf r ns = record { lower = r .lower; upper = r .upper; categories = ns }
+
+abbrev categories : List Range → List ℕ
+categories gs = joined (map (λ g. g .categories) gs)
+
 abbrev held : ℕ → List Range → List ℕ
-held c gs = joined (map (λ g. g .categories) (select (rangeHolds c) gs))
+held c gs = categories (select (rangeHolds c) gs)
 
 covers-same : (c total at : ℕ) (rs : List RangeSlot) (l : List ℕ) → referenceSize * total ≤ length l → T (slotsStand total at rs)
     → coversGot c rs l ≡ held c (ranging rs (drop at (numbered total l)))
@@ -133,7 +139,10 @@ covers-same c total at (r ∷ rs) l h t = go (slotHolds c r) (covers-same c tota
 
     go : (z : Bool) → coversGot c rs l ≡ held c (ranging rs (drop (r .count) (drop at (numbered total l))))
         → cond z (numbersGot (r .first) (r .count) l) [] ++ coversGot c rs l
-        ≡ joined (map (λ (g : Range). g .categories) (cond z (record { lower = r .lower; upper = r .upper; categories = take (r .count) (drop at (numbered total l)) } ∷ select (rangeHolds c) (ranging rs (drop (r .count) (drop at (numbered total l))))) (select (rangeHolds c) (ranging rs (drop (r .count) (drop at (numbered total l)))))))
+        ≡ categories
+        (cond z
+        (rangeOf r (take (r .count) (drop at (numbered total l))) ∷ select (rangeHolds c) (ranging rs (drop (r .count) (drop at (numbered total l)))))
+        (select (rangeHolds c) (ranging rs (drop (r .count) (drop at (numbered total l))))))
     go true ih = ap₂ (λ x y. x ++ y) here ih
     go false ih = ih
 
@@ -143,7 +152,8 @@ held-all p c [] ns t = tt
 held-all p c (r ∷ rs) ns t = go (slotHolds c r) (held-all p c rs (drop (r .count) ns) (all-drop p (r .count) ns t))
   where
     go : (z : Bool) → T (all p (held c (ranging rs (drop (r .count) ns))))
-        → T (all p (joined (map (λ (g : Range). g .categories) (cond z (record { lower = r .lower; upper = r .upper; categories = take (r .count) ns } ∷ select (rangeHolds c) (ranging rs (drop (r .count) ns))) (select (rangeHolds c) (ranging rs (drop (r .count) ns)))))))
+        → T (all p (categories (cond z (rangeOf r (take (r .count) ns) ∷ select (rangeHolds c) (ranging rs (drop (r .count) ns)))
+        (select (rangeHolds c) (ranging rs (drop (r .count) ns))))))
     go true ih = all-append p (take (r .count) ns) _ (all-take p (r .count) ns t) ih
     go false ih = ih
 
@@ -202,7 +212,8 @@ module _ (t : Tables) (n : Counts) (h : T (holds t n)) where
         few = q .few-ranges;
         fits = subst (λ rs. T (all (λ x. ltb x noBoundary) (endsOf rs))) (sym slots-are) (ends-fit (n .references) 0 (slotsIn t n) (q .stand));
         known = λ c. subst (λ l. T (all (λ x. ltb x maxCategories) l)) (sym (covers-are c))
-            (held-all (λ x. ltb x maxCategories) c (slotsIn t n) (numbersIn t n) (all-imp (λ x. ltb x (n .categories)) (λ x. ltb x maxCategories) wider (numbersIn t n) (q .known)));
+            (held-all (λ x. ltb x maxCategories) c (slotsIn t n) (numbersIn t n)
+            (all-imp (λ x. ltb x (n .categories)) (λ x. ltb x maxCategories) wider (numbersIn t n) (q .known)));
       }
     where
       wider : (x : ℕ) → T (ltb x (n .categories)) → T (ltb x maxCategories)

@@ -1,27 +1,23 @@
 -- What a row notes by stamps, part after part: what is left gives the whole. A row notes at most as many numbers as there are stamps.
 -- Assumes nothing.
 use Prim.Native.Nat.{ℕ, zero, suc, _+_, _*_, _-_, _≤_, _<_}
-use native.Mathlib.Numerals.{add-one}
 use native.Mathlib.Omega.{arith}
 use mathlib.Core.Path.{_≡_, refl, sym, ap, ap₂, _∙_, subst}
-use mathlib.Core.Bool.{Bool, true, false, cond, _&&_}
-use mathlib.Core.List.{List, [], _∷_, _++_, map}
-use lib.Dec.{leb, ltb, eqb}
+use mathlib.Core.Bool.{Bool, true, false, cond}
+use mathlib.Core.List.{List, [], _∷_, _++_}
+use lib.Dec.{ltb, eqb}
 use lib.ListN.{length, getD, set, length-set, length-append}
 use lib.Seq.{sets, length-sets}
-use borrow.Author.Tests.{le-leb, lt-leb, lt-ltb, le-ltb, eq-eqb, ne-eqb, ltb-true, ltb-false}
-use Rattle.paper.specs.Tables.Layout.{RangeSlot}
+use borrow.Author.Tests.{eq-eqb, ltb-true}
 use Rattle.paper.specs.Tables.Lent.{got}
 use Rattle.paper.specs.Rows.Covering.{orElse}
+use Rattle.paper.proofs.Apart.{true-false}
 use Rattle.row.specs.Slots.{slotGot, slotsGot, numbersGot, slotHolds, coversGot}
 use Rattle.row.specs.Stamps.{isSeen, stamped, stamps, Noted, Rowed}
 use Rattle.row.specs.Fallback.{fallbackRow}
 use Rattle.row.specs.declared.Fallback.{Fallback}
 use Rattle.row.specs.declared.Fallback.the-variants.{Category, Nothing}
 use Rattle.row.proofs.Turn.{slots-none, slots-more, numbers-none, numbers-more}
-
-true-false : {X : Type 0} → true ≡ false → X
-true-false e = absurd (subst lib.Dec.T e tt)
 
 -- ---- one step, and parts one after another
 
@@ -153,7 +149,8 @@ module _ (s : ℕ) (all seen₀ out₀ : List ℕ) (at : ℕ) where
       let ec : to′ ≡ to + length (stamped s seen p) = n .count in
       let ea = stamped-append s seen p rest in
       let q : to + length (stamped s seen (p ++ rest)) ≡ at + length (stamped s seen₀ all) = h .count-left in
-      let la : length (stamped s seen (p ++ rest)) ≡ length (stamped s seen p) + length (stamped s (stamps s seen p) rest) = ap length ea ∙ length-append (stamped s seen p) (stamped s (stamps s seen p) rest) in
+      let la : length (stamped s seen (p ++ rest)) ≡ length (stamped s seen p) + length (stamped s (stamps s seen p) rest) =
+      ap length ea ∙ length-append (stamped s seen p) (stamped s (stamps s seen p) rest) in
       let lb : length (stamped s seen′ rest) ≡ length (stamped s (stamps s seen p) rest) = ap (λ z. length (stamped s z rest)) es in
       let short : length (stamped s seen₀ all) ≤ length seen₀ = stamped-short s seen₀ all in
       record {
@@ -206,7 +203,11 @@ module _ (s : ℕ) (l seen₀ out₀ : List ℕ) (at first count end : ℕ) wher
   noting-start i e f =
       let k : end - i ≡ count = omega arith in
       let m : numbersGot first count l ≡ numbersGot i (end - i) l = ap₂ (λ a b. numbersGot a b l) (sym f) (sym k) in
-      record { ends = omega arith; upto = omega arith; left = left-same s (numbersGot first count l) seen₀ out₀ at _ _ seen₀ out₀ at m (left-start s (numbersGot first count l) seen₀ out₀ at) }
+      record {
+        ends = omega arith;
+        upto = omega arith;
+        left = left-same s (numbersGot first count l) seen₀ out₀ at _ _ seen₀ out₀ at m (left-start s (numbersGot first count l) seen₀ out₀ at);
+      }
 
   module _ (seen out : List ℕ) (i to x : ℕ) (h : Noting s l seen₀ out₀ at first count end seen out i to) (lt : i < end) (ex : x ≡ got 2 (2 * i) l) where
     opened : Left s (numbersGot first count l) seen₀ out₀ at ((x ∷ []) ++ numbersGot (i + 1) (end - (i + 1)) l) seen out to
@@ -229,10 +230,13 @@ module _ (s : ℕ) (l seen₀ out₀ : List ℕ) (at first count end : ℕ) wher
         (record {
           ends = h .ends;
           upto = omega arith;
-          left = left-part s (numbersGot first count l) seen₀ out₀ at (x ∷ []) _ seen (set seen x s) out (set out to x) to (to + 1) opened (one-new s x seen out to (sym e ∙ t));
+          left =
+              left-part s (numbersGot first count l) seen₀ out₀ at (x ∷ []) _ seen (set seen x s) out (set out to x) to (to + 1) opened
+              (one-new s x seen out to (sym e ∙ t));
         })
 
-  pub noting-done : (seen out : List ℕ) (i to : ℕ) → Noting s l seen₀ out₀ at first count end seen out i to → end ≤ i → Noted s (numbersGot first count l) seen₀ seen out₀ out at to
+  pub noting-done : (seen out : List ℕ) (i to : ℕ) → Noting s l seen₀ out₀ at first count end seen out i to → end ≤ i
+      → Noted s (numbersGot first count l) seen₀ seen out₀ out at to
   noting-done seen out i to h g = left-done s (numbersGot first count l) seen₀ out₀ at _ seen out to (numbers-none i end l g) (h .left)
 
 -- ---- the turns of `named`
@@ -251,7 +255,9 @@ module _ (s c n : ℕ) (rs l seen₀ out₀ : List ℕ) (at : ℕ) where
       let e : n ≡ n - 0 = omega arith in
       record {
         upto = omega arith;
-        left = left-same s (coversGot c (slotsGot 0 n rs) l) seen₀ out₀ at _ _ seen₀ out₀ at (ap (λ k. coversGot c (slotsGot 0 k rs) l) e) (left-start s (coversGot c (slotsGot 0 n rs) l) seen₀ out₀ at);
+        left =
+            left-same s (coversGot c (slotsGot 0 n rs) l) seen₀ out₀ at _ _ seen₀ out₀ at (ap (λ k. coversGot c (slotsGot 0 k rs) l) e)
+            (left-start s (coversGot c (slotsGot 0 n rs) l) seen₀ out₀ at);
       }
 
   module _ (seen out : List ℕ) (i to : ℕ) (h : Naming s c n rs l seen₀ out₀ at seen out i to) (lt : i < n) (b : Bool) (eb : b ≡ slotHolds c (slotGot i rs)) where
@@ -278,8 +284,10 @@ module _ (s c n : ℕ) (rs l seen₀ out₀ : List ℕ) (at : ℕ) where
         let k = left-same s (coversGot c (slotsGot 0 n rs) l) seen₀ out₀ at _ _ seen out to e (h .left) in
         record { upto = omega arith; left = left-part s (coversGot c (slotsGot 0 n rs) l) seen₀ out₀ at _ _ seen seen′ out out′ to to′ k m }
 
-  pub naming-done : (seen out : List ℕ) (i to : ℕ) → Naming s c n rs l seen₀ out₀ at seen out i to → n ≤ i → Noted s (coversGot c (slotsGot 0 n rs) l) seen₀ seen out₀ out at to
-  naming-done seen out i to h g = left-done s (coversGot c (slotsGot 0 n rs) l) seen₀ out₀ at _ seen out to (ap (λ k. coversGot c k l) (slots-none i n rs g) ∙ nothing c l) (h .left)
+  pub naming-done : (seen out : List ℕ) (i to : ℕ) → Naming s c n rs l seen₀ out₀ at seen out i to → n ≤ i
+      → Noted s (coversGot c (slotsGot 0 n rs) l) seen₀ seen out₀ out at to
+  naming-done seen out i to h g =
+      left-done s (coversGot c (slotsGot 0 n rs) l) seen₀ out₀ at _ seen out to (ap (λ k. coversGot c k l) (slots-none i n rs g) ∙ nothing c l) (h .left)
 
 -- ---- how a row ends
 module _ (s : ℕ) (l seen₀ seen out₀ out : List ℕ) (at to : ℕ) (h : Noted s l seen₀ seen out₀ out at to) where

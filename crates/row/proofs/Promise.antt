@@ -4,19 +4,20 @@
 use Prim.Native.Nat.{ℕ, _+_, _≤_, _<_}
 use native.Mathlib.Omega.{arith}
 use mathlib.Core.Path.{_≡_, refl, sym, ap, ap₂, _∙_, subst}
-use mathlib.Core.Bool.{Bool, true, false, not, cond, _||_}
+use mathlib.Core.Bool.{Bool, true, false, cond, _||_}
 use mathlib.Core.List.{List, [], _∷_, _++_, map}
-use mathlib.Core.Option.{Option, none, some}
-use lib.Dec.{T, leb, ltb}
+use mathlib.Core.Option.{none, some}
+use lib.Dec.{T, ltb}
 use lib.ListN.{length, take, drop, length-map}
 use lib.Seq.{sets, sets-eq, take-at}
 use borrow.Author.Tests.{lt-ltb, le-ltb, ltb-true, ltb-false}
 use Rattle.paper.specs.Refusals.{tableRoomShort, tablesApart}
-use Rattle.paper.specs.Lists.{joined, sum, offsetsFrom}
+use Rattle.paper.specs.Sizes.{maxFlatRow}
+use Rattle.paper.specs.Lists.{any, joined, offsetsFrom}
 use Rattle.paper.specs.CharDef.Reading.{Reading}
 use Rattle.paper.specs.Rows.Covering.{default, boundaries, rows}
 use Rattle.paper.specs.Rows.Flat.{flatPool}
-use Rattle.paper.specs.Rows.Build.{built, refusedBy, rowsNeeded, placesNeeded, rowRoomShort, rowsBuilt}
+use Rattle.paper.specs.Rows.Build.{built, refusedBy, rowsNeeded, placesNeeded, rowOverlong, rowRoomShort, rowsBuilt}
 use Rattle.paper.specs.Rows.Lookup.{LookupTables, RowsLeft}
 use Rattle.paper.specs.Rows.Numbers.{findName}
 use Rattle.paper.specs.Tables.Layout.{Tables}
@@ -28,7 +29,7 @@ use Rattle.paper.proofs.Rows.Boundaries.{row-for-each}
 use Rattle.row.specs.Built.{RowRoom, answerTo, given, ahead, filled, leaves, BuildsRows}
 use Rattle.row.specs.Slots.{slotsGot}
 use Rattle.row.specs.Fallback.{foundRow}
-use Rattle.row.specs.Walked.{boundariesOf, rowsOf, NeedIs, Filled, Room, RoomIs, RoomFor, Made, Kept, MadeOr17}
+use Rattle.row.specs.Walked.{boundariesOf, rowsOf, larger, longestOf, NeedIs, Filled, RoomIs, RoomFor, Made, Kept, MadeOr17}
 use Rattle.row.specs.declared.Need.{Need}
 use Rattle.row.specs.declared.RowCounts.{RowCounts}
 use Rattle.row.specs.declared.Built.{Built}
@@ -59,9 +60,9 @@ module _ (bs : List ℕ) (ws : List (List ℕ)) (lent : RowRoom) (n : Need) (b :
 
 -- ---- over a reading: 17 is the paper's, and the memory too
 
-places-are : (r : Reading) → placesNeeded r ≡ length (joined (rows r))
+places-exact : (r : Reading) → placesNeeded r ≡ length (joined (rows r))
 unfolding placesNeeded
-places-are r = sym (joined-length (rows r))
+places-exact r = sym (joined-length (rows r))
 
 -- what is set from the front stands there, and what lay behind it stays
 set-ahead : (x l : List ℕ) → length x ≤ length l → sets l 0 x ≡ ahead x l
@@ -80,7 +81,7 @@ module _ (r : Reading) (lent : RowRoom) where
   roomy-not : RoomFor (boundaries r) (rows r) lent → shortage ≡ false
   unfolding rowRoomShort rowsNeeded
   roomy-not h =
-      let p : placesNeeded r ≤ length (lent .pool) = subst (λ k. k ≤ length (lent .pool)) (sym (places-are r)) (h .in-pool) in
+      let p : placesNeeded r ≤ length (lent .pool) = subst (λ k. k ≤ length (lent .pool)) (sym (places-exact r)) (h .in-pool) in
       rw (le-ltb (length (lent .boundaries)) (length (boundaries r)) (h .in-boundaries), le-ltb (length (lent .starts)) (length (boundaries r)) (h .in-starts))
       (rw (le-ltb (length (lent .lengths)) (length (boundaries r)) (h .in-lengths), le-ltb (length (lent .pool)) (placesNeeded r) p))
 
@@ -101,7 +102,7 @@ module _ (r : Reading) (lent : RowRoom) where
             in-boundaries = ltb-false (length (lent .boundaries)) (length (boundaries r)) ea;
             in-starts = ltb-false (length (lent .starts)) (length (boundaries r)) eb;
             in-lengths = ltb-false (length (lent .lengths)) (length (boundaries r)) ec;
-            in-pool = subst (λ k. k ≤ length (lent .pool)) (places-are r) (ltb-false (length (lent .pool)) (placesNeeded r) ed);
+            in-pool = subst (λ k. k ≤ length (lent .pool)) (places-exact r) (ltb-false (length (lent .pool)) (placesNeeded r) ed);
           }))
 
   filled-so : (after : RowRoom) → RoomFor (boundaries r) (rows r) lent → Filled (boundaries r) (rows r) lent after → after ≡ filled r lent
@@ -114,6 +115,11 @@ module _ (r : Reading) (lent : RowRoom) where
       (f .pool ∙ set-ahead (joined (rows r)) (lent .pool) (h .in-pool))
 
 -- ---- over tables handed in
+
+-- with the fallback that is found there, the rows of the walk are the reading's
+rows-found : (t : Tables) (n : Counts) → T (holds t n) → (ds : List ℕ) → ds ≡ foundRow (findName (t .names) (t .categories) (n .categories) default)
+    → rowsOf ds (slotsGot 0 (n .ranges) (t .ranges)) (t .references) ≡ rows (decoded t n)
+rows-found t n h ds e = ap (λ d. rowsOf d (slotsGot 0 (n .ranges) (t .ranges)) (t .references)) (e ∙ fallback-met t n h) ∙ rows-met t n h
 
 module _ (t : Tables) (n : Counts) (lent : RowRoom) where
   pub builds-apart : holds t n ≡ false → BuildsRows t n lent lent (Refused (record { number = tablesApart; place = 0 }))
@@ -135,7 +141,7 @@ module _ (t : Tables) (n : Counts) (lent : RowRoom) where
         }
       where
         counts : k .rows ≡ length (boundaries (decoded t n)) → k .places ≡ length (joined (rows (decoded t n))) → Rows k ≡ given (decoded t n) built
-        counts p q = ap₂ (λ x y. Rows (record { rows = x; places = y })) p (q ∙ sym (places-are (decoded t n)))
+        counts p q = ap₂ (λ x y. Rows (record { rows = x; places = y })) p (q ∙ sym (places-exact (decoded t n)))
     builds-so after (Refused e) m =
         let f : answerTo t n lent ≡ refusedBy tableRoomShort = answer-is ∙ ap (λ b. cond b (refusedBy tableRoomShort) built) (short-is (decoded t n) lent (m .short)) in
         record {
@@ -150,9 +156,9 @@ module _ (t : Tables) (n : Counts) (lent : RowRoom) where
         → MadeOr17 (boundariesOf (slotsGot 0 (n .ranges) (t .ranges))) (rowsOf ds (slotsGot 0 (n .ranges) (t .ranges)) (t .references)) lent after a
         → BuildsRows t n lent after a
     builds-rows ds after a e m =
-        let f : rowsOf ds (slotsGot 0 (n .ranges) (t .ranges)) (t .references) ≡ rows (decoded t n) =
-        ap (λ d. rowsOf d (slotsGot 0 (n .ranges) (t .ranges)) (t .references)) (e ∙ fallback-met t n h) ∙ rows-met t n h in
-        builds-so after a (subst (λ ws. MadeOr17 (boundaries (decoded t n)) ws lent after a) f (subst (λ bs. MadeOr17 bs (rowsOf ds (slotsGot 0 (n .ranges) (t .ranges)) (t .references)) lent after a) (boundaries-met t n h) m))
+        builds-so after a
+        (subst (λ ws. MadeOr17 (boundaries (decoded t n)) ws lent after a) (rows-found t n h ds e)
+        (subst (λ bs. MadeOr17 bs (rowsOf ds (slotsGot 0 (n .ranges) (t .ranges)) (t .references)) lent after a) (boundaries-met t n h) m))
 
 -- ---- NOTHING IS LEFT OPEN: two outcomes that the promise allows coincide, in the answer and in the memory
 
@@ -194,11 +200,16 @@ module _ {t : Tables} {n : Counts} {lent after : RowRoom} {a : Built} (p : Build
 
 -- ---- what is left is what lookups ask, where as many boundaries are lent as there are rows
 
+-- tables for a lookup, with as many boundaries as are counted
+abbrev pub lookupOver : (index flat : List ℕ) → ℕ → RowRoom → LookupTables
+lookupOver index flat count x =
+    record { index = index; flat = flat; boundaries = take count (x .boundaries); starts = x .starts; lengths = x .lengths; pool = x .pool }
+
 starts-ahead : (x l : List ℕ) → take (length x) (ahead x l) ≡ x
 starts-ahead x l = take-at x (drop (length x) l) (length x) refl
 
 rows-left-filled : (r : Reading) (lent : RowRoom) (index flat : List ℕ)
-    → RowsLeft r (record { index = index; flat = flat; boundaries = take (rowsNeeded r) (filled r lent .boundaries); starts = filled r lent .starts; lengths = filled r lent .lengths; pool = filled r lent .pool })
+    → RowsLeft r (lookupOver index flat (rowsNeeded r) (filled r lent))
 unfolding filled rowsNeeded
 rows-left-filled r lent index flat =
     record {
@@ -210,14 +221,69 @@ rows-left-filled r lent index flat =
 
 pub rows-left : {t : Tables} {n : Counts} {lent after : RowRoom} {k : RowCounts} → BuildsRows t n lent after (Rows k)
     → (r : Reading) → handedIn t n ≡ some r → (index flat : List ℕ)
-    → RowsLeft r (record { index = index; flat = flat; boundaries = take (k .rows) (after .boundaries); starts = after .starts; lengths = after .lengths; pool = after .pool })
+    → RowsLeft r (lookupOver index flat (k .rows) after)
 rows-left {t} {n} {lent} {after} {k} p r e index flat = go (shortage r lent) refl
   where
     left : (m : RowCounts) (x : RowRoom) → m ≡ record { rows = rowsNeeded r; places = placesNeeded r } → x ≡ filled r lent
-        → RowsLeft r (record { index = index; flat = flat; boundaries = take (m .rows) (x .boundaries); starts = x .starts; lengths = x .lengths; pool = x .pool })
+        → RowsLeft r (lookupOver index flat (m .rows) x)
     left m x f g = rw (f, g) (rows-left-filled r lent index flat)
 
     go : (b : Bool) → shortage r lent ≡ b
-        → RowsLeft r (record { index = index; flat = flat; boundaries = take (k .rows) (after .boundaries); starts = after .starts; lengths = after .lengths; pool = after .pool })
+        → RowsLeft r (lookupOver index flat (k .rows) after)
     go true s = zero-one (let f = short-given p r e s .0 in cc)
     go false s = let (f, g) = rows-given p r e s in left k after (cc) g
+
+-- ---- the need over tables that hold together, for those who walk the rows again: 16 by the longest row
+
+or-no : (b : Bool) → (b || false) ≡ b
+or-no true = refl
+or-no false = refl
+
+longer : (m k l : ℕ) → ltb m (larger k l) ≡ (ltb m l || ltb m k)
+longer m k l = go (ltb k l) refl
+  where
+    or-yes : (b : Bool) → (b || true) ≡ true
+    or-yes true = refl
+    or-yes false = refl
+
+    go : (b : Bool) → ltb k l ≡ b → ltb m (cond b l k) ≡ (ltb m l || ltb m k)
+    go true e = by (ltb m k) refl (ltb-true k l e)
+      where
+        by : (c : Bool) → ltb m k ≡ c → k < l → ltb m l ≡ (ltb m l || c)
+        by true f h = let g : m < k = ltb-true m k f in lt-ltb m l (omega arith) ∙ sym (or-yes (ltb m l))
+        by false f h = sym (or-no (ltb m l))
+    go false e = by (ltb m l) refl (ltb-false k l e)
+      where
+        by : (c : Bool) → ltb m l ≡ c → l ≤ k → ltb m k ≡ (c || ltb m k)
+        by true f h = let g : m < l = ltb-true m l f in lt-ltb m k (omega arith)
+        by false f h = refl
+
+longest-any : (m k : ℕ) (ws : List (List ℕ)) → ltb m (longestOf k ws) ≡ (any (λ w. ltb m (length w)) ws || ltb m k)
+longest-any m k [] = refl
+longest-any m k (w ∷ ws) =
+    longest-any m (larger k (length w)) ws ∙ ap (λ b. any (λ w. ltb m (length w)) ws || b) (longer m k (length w))
+    ∙ turn (any (λ w. ltb m (length w)) ws) (ltb m (length w)) (ltb m k)
+  where
+    turn : (a b c : Bool) → (a || (b || c)) ≡ ((b || a) || c)
+    turn true true c = refl
+    turn true false c = refl
+    turn false true c = refl
+    turn false false c = refl
+
+pub record NeedMet (r : Reading) (n : Need) : Type 0 where
+  pub rows-are : n .rows ≡ rowsNeeded r
+  pub places-are : n .places ≡ placesNeeded r
+  pub overlong : rowOverlong r ≡ ltb maxFlatRow (n .longest)
+
+pub need-met : (t : Tables) (n : Counts) → T (holds t n) → (ds : List ℕ) (k : Need) → ds ≡ foundRow (findName (t .names) (t .categories) (n .categories) default)
+    → NeedIs (boundariesOf (slotsGot 0 (n .ranges) (t .ranges))) (rowsOf ds (slotsGot 0 (n .ranges) (t .ranges)) (t .references)) k → NeedMet (decoded t n) k
+unfolding rowsNeeded rowOverlong
+need-met t n h ds k e is =
+    let f = rows-found t n h ds e in
+    record {
+      rows-are = is .count-rows ∙ ap length (boundaries-met t n h);
+      places-are = is .count-places ∙ ap (λ ws. length (joined ws)) f ∙ sym (places-exact (decoded t n));
+      overlong =
+          sym (ap (ltb maxFlatRow) (is .is-longest ∙ ap (longestOf 0) f) ∙ longest-any maxFlatRow 0 (rows (decoded t n))
+          ∙ or-no (any (λ w. ltb maxFlatRow (length w)) (rows (decoded t n))));
+    }

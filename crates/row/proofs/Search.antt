@@ -1,20 +1,22 @@
 -- The binary search: what stands below `lo` is at or below c, what stands from `hi` on above it, as far as the search has looked.
 -- Assumes nothing.
-use Prim.Native.Nat.{ℕ, zero, suc, _+_, _-_, _≤_, _<_, zero-le, suc-le-suc}
+use Prim.Native.Nat.{ℕ, zero, suc, _-_, _≤_, _<_, zero-le, suc-le-suc}
 use native.Mathlib.Nat.{not-suc-le-zero, le-of-suc-le-suc}
 use native.Mathlib.Numerals.{add-one}
 use native.Mathlib.Omega.{arith}
-use mathlib.Core.Path.{_≡_, refl, sym, ap, _∙_, subst}
-use mathlib.Core.Bool.{Bool, true, false, _&&_}
+use mathlib.Core.Path.{_≡_, refl, sym, _∙_, subst}
+use mathlib.Core.Bool.{Bool, true, false}
 use mathlib.Core.List.{List, [], _∷_}
-use lib.Dec.{T, leb, eqb}
+use lib.Dec.{T, leb}
 use lib.ListN.{length, getD}
-use mir.Facts.{and-yes, leb-yes, eqb-yes}
+use mir.Facts.{and-yes, eqb-yes}
 use borrow.Author.Tests.{leb-true, leb-false}
+use Rattle.paper.specs.CharDef.Reading.{Reading}
+use Rattle.paper.specs.Rows.Covering.{boundaries, categoriesAt, rows}
 use Rattle.paper.specs.Rows.Flat.{RowFound}
 use Rattle.paper.specs.Rows.Lookup.{fromZero}
 use Rattle.paper.proofs.Rows.Rising.{risingFrom}
-use Rattle.paper.proofs.Rows.Search.{found-one, rising-at}
+use Rattle.paper.proofs.Rows.Search.{found-one, found-row, from-zero, rising-at}
 use Rattle.row.specs.Sought.{RowSought, found, none-below}
 
 -- ---- the loop
@@ -97,6 +99,10 @@ not-found low c (suc i) (b ∷ bs) t f h =
     let l : getD bs i 0 ≤ c = f .up-to in
     let m : suc b ≤ getD bs i 0 = rising-at (suc b) bs i (and-yes (leb low b) (risingFrom (suc b) bs) t .1) (le-of-suc-le-suc (f .inside)) in
     omega arith
+
+-- among a reading's it is the row that the covering rule fills
+pub sought-row : (r : Reading) (c i : ℕ) → RowSought (boundaries r) c i → getD (rows r) i [] ≡ categoriesAt r c
+sought-row r c i s = found-row r c i (sought-found (boundaries r) c i (subst (λ bs. T (fromZero bs)) (sym (from-zero r .1)) tt) s)
 
 -- among boundaries that rise, from wherever, there is one answer
 pub sought-one : (low c i j : ℕ) (bs : List ℕ) → T (risingFrom low bs) → RowSought bs c i → RowSought bs c j → i ≡ j

@@ -10,7 +10,7 @@ use Rattle.paper.specs.CharDef.Reading.{Reading}
 use Rattle.paper.specs.Rows.Covering.{boundaries, rows}
 use Rattle.paper.specs.Rows.Flat.{flatPool}
 use Rattle.paper.specs.Rows.Build.{built, refusedBy, rowsNeeded, placesNeeded, rowsBuilt}
-use Rattle.paper.specs.Rows.Build as answer
+use Rattle.paper.specs.Rows.Build as paper
 use Rattle.paper.specs.Tables.Layout.{Tables}
 use Rattle.paper.specs.Computed.HandedIn.{decoded, handedIn}
 use Rattle.paper.specs.declared.Counts.{Counts}
@@ -27,11 +27,11 @@ pub record RowRoom : Type 0 where
 -- ---- the answer
 
 -- 26 where the tables do not hold together, 17 where a slice is below the exact need
-abbrev pub answerTo : Tables → Counts → RowRoom → answer.Built
+abbrev pub answerTo : Tables → Counts → RowRoom → paper.Built
 answerTo t n lent = rowsBuilt (handedIn t n) (length (lent .boundaries)) (length (lent .starts)) (length (lent .lengths)) (length (lent .pool))
 
 -- the case of the enum for each answer of the paper: the counts of the reading's rows, or the number of the refusal, at place 0
-abbrev pub given : Reading → answer.Built → Built
+abbrev pub given : Reading → paper.Built → Built
 given r built = Rows (record { rows = rowsNeeded r; places = placesNeeded r })
 given r (refusedBy number) = Refused (record { number = number; place = 0 })
 
@@ -52,7 +52,7 @@ filled r lent =
     }
 
 -- a refusal "leaves lent memory unchanged"
-abbrev pub leaves : Reading → answer.Built → RowRoom → RowRoom
+abbrev pub leaves : Reading → paper.Built → RowRoom → RowRoom
 leaves r built lent = filled r lent
 leaves r (refusedBy number) lent = lent
 

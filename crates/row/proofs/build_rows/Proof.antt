@@ -6,11 +6,6 @@ use Rattle.row.proofs.Promise.{rows-made, rows-kept}
 use borrow.Author.Needs.{needs}
 use Rattle.row.proofs.build_rows.Statement.{statement}
 use Rattle.row.proofs.build_rows.Tie as tie
-use Rattle.row.proofs.build_rows.Reads as reads
-use Rattle.row.proofs.build_rows.Lts as lts
-use Rattle.row.proofs.fill_rows.Reads as fill-rows-reads
-use Rattle.row.proofs.has_room.Reads as has-room-reads
-use Rattle.row.proofs.rows_need.Reads as rows-need-reads
 
 rows-need-requires : tie.Need-rows-need-requires
 rows-need-requires c κs = search needs
@@ -38,15 +33,20 @@ same-length-4 c = search needs
 
 returns : tie.Need-returns
 returns c =
-    let a = ((c .before .before .before .before .before .before .before .before .before .before .before .before .before .before .before .before .before .before .before .before .before .before .before .before .args)) in
+    let a =
+    (c .before .before .before .before .before .before .before .before .before .before .before .before .before .before .before .before .before .before .before .before .before .before .before .before .args) in
     let lent : RowRoom = record { boundaries = now (a .boundaries); starts = now (a .starts); lengths = now (a .lengths); pool = now (a .pool) } in
-    rows-made _ _ lent _ _ ((c .before .before .before .before .before .before .before .before .before .before .before .before .before .before .before .before .before .rows-need .ensures)) ((c .before .before .before .before .before .before .before .before .before .before .before .before .before .before .before .before .has-room .ensures)) _ ((c .before .before .before .before .before .before .before .before .before .before .before .before .before .before .before .if1 .taken)) ((c .before .before .before .before .before .before .before .before .before .fill-rows .ensures .0))
+    rows-made _ _ lent _ _
+    (c .before .before .before .before .before .before .before .before .before .before .before .before .before .before .before .before .before .rows-need .ensures)
+    (c .before .before .before .before .before .before .before .before .before .before .before .before .before .before .before .before .has-room .ensures) _
+    (c .before .before .before .before .before .before .before .before .before .before .before .before .before .before .before .if1 .taken)
+    (c .before .before .before .before .before .before .before .before .before .fill-rows .ensures .0)
 
 returns-2 : tie.Need-returns-2
 returns-2 c =
-    let a = ((c .before .before .before .before .before .before .before .before .before .args)) in
+    let a = (c .before .before .before .before .before .before .before .before .before .args) in
     let lent : RowRoom = record { boundaries = now (a .boundaries); starts = now (a .starts); lengths = now (a .lengths); pool = now (a .pool) } in
-    rows-kept _ _ lent _ _ ((c .before .before .rows-need .ensures)) ((c .before .has-room .ensures)) ((c .if1 .left))
+    rows-kept _ _ lent _ _ (c .before .before .rows-need .ensures) (c .before .has-room .ensures) (c .if1 .left)
 
 pub build-rows-spec : {M : Type 1} → statement M
 build-rows-spec =

@@ -1,12 +1,10 @@
+-- `row::eval` meets its contract: each turn halves what is left between `lo` and `hi`, and the search of `Search` goes on.
+-- Assumes nothing.
 use Rattle.row.proofs.Search.{Search, search-start, search-up, search-down, search-done}
 use native.Mathlib.Omega.{arith}
-use Prim.Native.Nat.{_≤_, _<_, _-_, _+_}
-use mathlib.Core.Path.{_≡_}
-use lib.ListN.{length, getD}
+use Prim.Native.Nat.{_-_}
 use Rattle.row.proofs.eval.Statement.{statement}
 use Rattle.row.proofs.eval.Tie as tie
-use Rattle.row.proofs.eval.Reads as reads
-use Rattle.row.proofs.eval.Lts as lts
 
 abbrev Inv-loop : tie.InvT-loop
 Inv-loop boundaries c lo₀ hi₀ lo hi = Search boundaries c lo hi
@@ -36,16 +34,16 @@ loop-less : tie.Need-loop-less Inv-loop μ-loop
 loop-less c = omega arith
 
 loop-again : tie.Need-loop-again Inv-loop μ-loop
-loop-again c = search-up _ _ _ _ _ ((c .before .before .before .loop .inv)) (omega arith) (omega arith) ((c .if1 .taken))
+loop-again c = search-up _ _ _ _ _ (c .before .before .before .loop .inv) (omega arith) (omega arith) (omega arith)
 
 loop-less-2 : tie.Need-loop-less-2 Inv-loop μ-loop
 loop-less-2 c = omega arith
 
 loop-again-2 : tie.Need-loop-again-2 Inv-loop μ-loop
-loop-again-2 c = search-down _ _ _ _ _ ((c .before .before .before .loop .inv)) (omega arith) (omega arith) ((c .if1 .left))
+loop-again-2 c = search-down _ _ _ _ _ (c .before .before .before .loop .inv) (omega arith) (omega arith) (omega arith)
 
 returns : tie.Need-returns Inv-loop μ-loop
-returns c = search-done _ _ _ _ ((c .before .loop .inv)) (omega arith)
+returns c = search-done _ _ _ _ (c .before .loop .inv) (omega arith)
 
 pub eval-spec : {M : Type 1} → statement M
 eval-spec =

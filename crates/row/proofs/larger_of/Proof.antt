@@ -4,14 +4,12 @@ use native.Mathlib.Omega.{arith}
 use Rattle.row.proofs.Turn.{second-larger, first-larger}
 use Rattle.row.proofs.larger_of.Statement.{statement}
 use Rattle.row.proofs.larger_of.Tie as tie
-use Rattle.row.proofs.larger_of.Reads as reads
-use Rattle.row.proofs.larger_of.Lts as lts
 
 returns : tie.Need-returns
-returns c = second-larger _ _ (c .if1 .taken)
+returns c = second-larger _ _ (omega arith)
 
 returns-2 : tie.Need-returns-2
-returns-2 c = first-larger _ _ (c .if1 .left)
+returns-2 c = first-larger _ _ (omega arith)
 
 pub larger-of-spec : {M : Type 1} → statement M
 larger-of-spec = tie.close (tie.spec returns returns-2)

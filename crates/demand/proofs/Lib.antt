@@ -1,0 +1,3 @@
+-- The demands are met.
+pub mod Demand1
+pub mod Demand3
