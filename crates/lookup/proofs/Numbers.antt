@@ -12,15 +12,14 @@ use lib.Seq.{getD-take, getD-drop}
 use borrow.Author.Tests.{le-leb, lt-leb, lt-ltb, le-ltb, ltb-false}
 use Rattle.paper.specs.Refusals.{numberUnknown, tablesApart}
 use Rattle.paper.specs.Rows.Lookup.{Looked, gives, refuses}
-use Rattle.paper.specs.Rows.Numbers.{nameIn, pastStore, entryAt, lookupDefinition, categoryName}
-use Rattle.paper.specs.Tables.Layout.{NameSlot, nameSlotOf, definitionOf, nameSlotSize, definitionSize, nameLenAt, invokeAt, groupAt}
+use Rattle.paper.specs.Rows.Numbers.{pastStore, entryAt, lookupDefinition, categoryName}
+use Rattle.paper.specs.Tables.Layout.{NameSlot, nameSlotOf, nameSlotSize, definitionSize, nameLenAt, invokeAt, groupAt}
 use Rattle.paper.specs.Tables.Lent.{got, num}
 use Rattle.paper.proofs.Apart.{zero-one}
 use Rattle.paper.proofs.Tables.Laws.{got-in, num-part}
 use Rattle.lookup.specs.declared.DefinitionFound.the-variants as definition-found
 use Rattle.paper.specs.declared.Refusal.{Refusal}
 use Rattle.lookup.specs.declared.Span.{Span}
-use Rattle.lookup.specs.declared.NameFound.{NameFound}
 use Rattle.lookup.specs.declared.NameFound.the-variants as name-found
 use Rattle.lookup.specs.Numbers.{definition, name, nameHeld}
 

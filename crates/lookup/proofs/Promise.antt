@@ -33,7 +33,7 @@ use Rattle.paper.proofs.Rows.Numbers.{number-name, number-definition}
 use Rattle.paper.proofs.Tables.Holds.{stands-handed}
 use Rattle.lookup.specs.declared.Span.{Span}
 use Rattle.lookup.specs.declared.Located.{Located}
-use Rattle.lookup.specs.declared.Located.the-variants.{InFlat, InRows, Refused}
+use Rattle.lookup.specs.declared.Located.the-variants.{InFlat, Refused}
 use Rattle.lookup.specs.declared.Packed.{Packed}
 use Rattle.lookup.specs.declared.PackedFound.the-variants as packed-found
 use Rattle.lookup.specs.declared.CategoryAt.the-variants as category-found
