@@ -103,7 +103,7 @@ one-longer fs w v =
     ∙ ap (λ l. length (spell fs) + length l) (append-nil (bits w v)) ∙ ap (λ n. length (spell fs) + n) (bits-length w v)
 
 begins-near : {fs : List Field} {x : Next} → Begins fs x → length (spell fs) + most x ≤ of-due versionField
-unfolding most
+unfolding most of-due counted
 begins-near nothing-yet = le-refl _
 begins-near (one-more {fs = fs} {x = x} v b small k) =
     let h = begins-near b in
