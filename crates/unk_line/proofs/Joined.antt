@@ -8,11 +8,7 @@ use lib.ListN.{length, length-map}
 use Rattle.paper.specs.Lists.{empty, cut, push, is, joinWith}
 use Rattle.paper.specs.Text.Scalar.{comma}
 use Rattle.paper.specs.Unk.Entry.{nul}
-use Rattle.unk_line.specs.Line.{joinedFields}
-
--- a byte of the joined fields
-abbrev pub asJoined : ℕ → ℕ
-asJoined b = cond (is comma b) nul b
+use Rattle.unk_line.specs.Line.{joinedFields, asJoined}
 
 push-some : (x : ℕ) (ls : List (List ℕ)) → T (not (empty (push x ls)))
 push-some x [] = tt

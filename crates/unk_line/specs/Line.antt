@@ -2,6 +2,7 @@
 -- Assumes nothing.
 use Prim.Native.Nat.{ℕ, _≤_}
 use mathlib.Core.Path.{_≡_}
+use mathlib.Core.Bool.{cond}
 use mathlib.Core.List.{List, _++_}
 use lib.ListN.{length, take, drop}
 use Rattle.paper.specs.Lists.{cut, is, joinWith}
@@ -16,6 +17,10 @@ use Rattle.unk_line.specs.declared.UnkLine.the-variants as line
 -- "Details are the remaining fields joined by NUL"
 abbrev pub joinedFields : List ℕ → List ℕ
 joinedFields l = joinWith nul (cut (is comma) l)
+
+-- a byte of them: the part with NUL for each comma, as `Joined` of the proofs shows
+abbrev pub asJoined : ℕ → ℕ
+asJoined b = cond (is comma b) nul b
 
 -- "behind a 4-byte little-endian length"
 unfoldable pub storedFields : List ℕ → List ℕ

@@ -1,0 +1,3 @@
+pub mod Copy
+pub mod Ends
+pub mod Patches
