@@ -1,3 +1,5 @@
 pub mod Copy
 pub mod Ends
 pub mod Patches
+pub mod Marks
+pub mod Entered
