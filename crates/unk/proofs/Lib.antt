@@ -3,3 +3,4 @@ pub mod Ends
 pub mod Patches
 pub mod Marks
 pub mod Entered
+pub mod Walking

@@ -12,12 +12,14 @@ use Rattle.paper.specs.Rows.Lookup.{Looked, gives, refuses}
 use Rattle.paper.specs.Rows.Numbers.{findName}
 use Rattle.paper.specs.Tables.Lent.{patch, padded}
 use Rattle.paper.specs.Unk.Entry.{Entry, stored, lengthBytes}
-use Rattle.paper.specs.Computed.ReadUnk.{dropCR, UnkFound, entry, no-entry, Entries, stops, consEntry, enterUnk}
+use Rattle.paper.specs.Computed.ReadUnk.{dropCR, UnkFound, entry, no-entry, Entries, entries-are, stops, enterUnk}
 use Rattle.unk_line.specs.declared.UnkEntry.{UnkEntry}
 use Rattle.unk_line.specs.Line.{storedFields}
 use Rattle.unk.specs.declared.UnkCounts.{UnkCounts}
 use Rattle.unk.specs.declared.LineStep.{LineStep}
 use Rattle.unk.specs.declared.LineStep.the-variants.{Next, Stop}
+use Rattle.unk.specs.declared.UnkOutcome.{UnkOutcome}
+use Rattle.unk.specs.declared.UnkOutcome.the-variants.{Accepted, Refused}
 use Rattle.unk.specs.Layout.{entrySize, offsetSize, wordBytes}
 
 -- a part of a text
@@ -109,3 +111,15 @@ abbrev pub Stepped : (List ℕ → ℕ) → UnkFound → Memory → UnkCounts �
 Stepped mark f m c m′ (Next d) = (es : List Entry) → Held mark es m c → Went mark es f m′ d
 Stepped mark f m c m′ (Stop k) =
     (es : List Entry) → Held mark es m c → (go : ℕ → Entries) → enterUnk (suc (length es)) f go ≡ stops k (suc (length es))
+
+-- ---- the walk
+
+-- the text was walked to its end, and memory holds its entries
+pub record WalkEnded (mark : List ℕ → ℕ) (a : Entries) (m : Memory) (c : UnkCounts) : Type 0 where
+  pub entries : List Entry
+  pub is : a ≡ entries-are entries
+  pub held : Held mark entries m c
+
+abbrev pub Walked : (List ℕ → ℕ) → Entries → Memory → UnkOutcome → Type 0
+Walked mark a m (Accepted c) = WalkEnded mark a m c
+Walked mark a m (Refused x) = a ≡ stops (x .number) (x .place)

@@ -14,7 +14,7 @@ push-some : (x : ℕ) (ls : List (List ℕ)) → T (not (empty (push x ls)))
 push-some x [] = tt
 push-some x (l ∷ ls) = tt
 
-cut-some : (p : ℕ → Bool) (l : List ℕ) → T (not (empty (cut p l)))
+pub cut-some : (p : ℕ → Bool) (l : List ℕ) → T (not (empty (cut p l)))
 cut-some p [] = tt
 cut-some p (x ∷ l) = go (p x)
   where
