@@ -4,3 +4,6 @@ pub mod Patches
 pub mod Marks
 pub mod Entered
 pub mod Walking
+pub mod Tallies
+pub mod Places
+pub mod Blocks

@@ -29,6 +29,10 @@ entrySize = 8
 abbrev pub offsetSize : ℕ
 offsetSize = 4
 
+-- where the mark stands in an entry
+abbrev pub markAt : ℕ
+markAt = 6
+
 unfoldable pub wordBytes : (left right cost mark : ℕ) → List ℕ
 wordBytes left right cost mark = le u16Size left ++ (le u16Size right ++ (le u16Size cost ++ le u16Size mark))
 
