@@ -7,3 +7,4 @@ pub mod Walking
 pub mod Tallies
 pub mod Places
 pub mod Blocks
+pub mod Passes

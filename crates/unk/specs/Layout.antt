@@ -17,10 +17,10 @@ pub record UnkTables : Type 0 where
   pub offsets : List ℕ
   -- the details, each behind its length
   pub details : List ℕ
-  -- for each category where its entries begin among the references, and how many
+  -- for each category where its entries begin among the members, and how many
   pub places : List ℕ
-  -- the entries of each category
-  pub references : List ℕ
+  -- the entries of each category, one category behind another
+  pub members : List ℕ
 
 -- the bytes of an entry of `entries`, and of `offsets`
 abbrev pub entrySize : ℕ
@@ -55,5 +55,5 @@ layout u =
       offsets = joined (map (le u32Size) (u .offsets));
       details = u .store;
       places = joined (map nameSlotBytes (nameSlots 0 (map length (u .members))));
-      references = joined (map (le referenceSize) (joined (u .members)));
+      members = joined (map (le referenceSize) (joined (u .members)));
     }

@@ -2,3 +2,5 @@
 pub mod Layout
 pub mod Lines
 pub mod Members
+pub mod Parse
+pub mod Filled
