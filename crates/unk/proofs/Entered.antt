@@ -32,7 +32,7 @@ says-as text start end f s e h = subst (SaysLine text start end f) e h
 
 -- ---- one more element
 
-wide-word : (mark : List ℕ → ℕ) (e : Entry) → length (entryBytes mark e) ≡ entrySize
+pub wide-word : (mark : List ℕ → ℕ) (e : Entry) → length (entryBytes mark e) ≡ entrySize
 unfolding wordBytes
 wide-word mark e = refl
 

@@ -8,3 +8,5 @@ pub mod Tallies
 pub mod Places
 pub mod Blocks
 pub mod Passes
+pub mod Room
+pub mod Fill

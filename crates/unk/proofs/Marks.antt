@@ -28,7 +28,7 @@ module _ (store table : List ℕ) (count : ℕ) (name : List ℕ) where
   named-long =
       length-map (nameSlotsOf table count) (nameIn store) ∙ length-map (pieces nameSlotSize count table) nameSlotOf ∙ pieces-length nameSlotSize count table
 
-  found-below : (i : ℕ) → findName store table count name ≡ gives (some i) → i < count
+  pub found-below : (i : ℕ) → findName store table count name ≡ gives (some i) → i < count
   unfolding findName
   found-below i e = go (ltb (length table) (nameSlotSize * count) || any (pastStore store) (nameSlotsOf table count)) e
     where
