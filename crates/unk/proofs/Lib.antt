@@ -10,3 +10,5 @@ pub mod Blocks
 pub mod Passes
 pub mod Room
 pub mod Fill
+pub mod Laid
+pub mod Whole
