@@ -3,10 +3,10 @@
 // document 01 says. Rooms are filled before the reader is called, and lent with bytes behind their sizes.
 ghost use Prim.Native.Nat.{_≤_};
 ghost use Rattle.io.specs.Counts.{Counts as CountsIn};
-use char_def::Outcome;
 use libc::STDIN_FILENO;
 use libc::STDOUT_FILENO;
 use paper::Counts;
+use paper::Outcome;
 
 const TEXT_ROOM: usize = 70000;
 

@@ -16,7 +16,8 @@ use Rattle.paper.proofs.Tables.Trip.{tables-is}
 use Rattle.name.specs.Slots.{written}
 use Rattle.name.proofs.Written.{written-room}
 use Rattle.char_def.specs.Steps.{Memory, Held}
-use Rattle.char_def.specs.Lines.{WalkEnded, noTables, LinesAccepted}
+use Rattle.room.specs.Sized.{noTables, AcceptedInto}
+use Rattle.char_def.specs.Lines.{WalkEnded}
 use Rattle.char_def.proofs.Text.{held-nothing}
 
 -- ---- before
@@ -76,6 +77,6 @@ module _ {r : Reading} {m : Memory} {c : Counts} (z : Held r m c) where
 
 pub filled : {a : Answer} {m : Memory} {c : Counts} → WalkEnded a m c → (table categories : List ℕ) → length table ≡ nameSlotSize * maxCategories
     → categories ≡ written (m .slots) table
-    → LinesAccepted a (record { names = m .store; categories = categories; definitions = m .definitions; ranges = m .ranges; references = m .references }) c
+    → AcceptedInto a (record { names = m .store; categories = categories; definitions = m .definitions; ranges = m .ranges; references = m .references }) c
 filled w table categories l e =
     record { reading = w .reading; is = w .is; counts = counts-are (w .held); tables = tables-are (w .held) table categories l e }

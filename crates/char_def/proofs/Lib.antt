@@ -2,10 +2,8 @@
 pub mod Words
 pub mod Inside
 pub mod Entered
-pub mod Sizes
 pub mod Scan
 pub mod Walking
 pub mod Text
 pub mod Filled
 pub mod Whole
-pub mod Promise

@@ -12,12 +12,17 @@ use paper::MAX_NAME_BYTES;
 use paper::MAX_RANGES;
 use paper::MAX_REFERENCES;
 use paper::MAX_TEXT_BYTES;
+use paper::Outcome;
 use paper::RANGES_FULL;
 use paper::REFERENCES_FULL;
 use paper::ROOM_SHORT;
+use paper::Refusal;
 use paper::TEXT_ILL_FORMED;
 use paper::TEXT_LONG;
-use table::CATEGORY_BYTES;
+use room::CATEGORIES_SIZE;
+use room::DEFINITIONS_SIZE;
+use room::RANGES_SIZE;
+use room::REFERENCES_SIZE;
 use table::COUNT_AT;
 use table::DEFINITION_BYTES;
 use table::FIRST_AT;
@@ -41,28 +46,11 @@ ghost use Rattle.paper.specs.Tables.Lent.{patch};
 ghost use Rattle.line.specs.Marks.{lineBytes};
 ghost use Rattle.line.specs.Asked.{Inside};
 ghost use Rattle.char_def.specs.Steps.{long, wordsOf, Ready, EntersAll, Working, Stepped, enterBytes, enterFoundBytes, Held};
-ghost use Rattle.char_def.specs.Lines.{readAll, Walked, Sized, noTables, TablesFilled, LinesRead};
-ghost use Rattle.char_def.specs.Parse.{roomFor, Parsed};
+ghost use Rattle.room.specs.Sized.{Sized, noTables, ReadInto};
+ghost use Rattle.char_def.specs.Lines.{readAll, Walked, TablesFilled};
+ghost use Rattle.char_def.specs.Parse.{Parsed};
 
 const LF: u8 = b'\n';
-
-const CATEGORIES_SIZE: usize = MAX_CATEGORIES * CATEGORY_BYTES;
-
-const DEFINITIONS_SIZE: usize = MAX_CATEGORY_LINES * DEFINITION_BYTES;
-
-const RANGES_SIZE: usize = MAX_RANGES * RANGE_BYTES;
-
-const REFERENCES_SIZE: usize = MAX_REFERENCES * REFERENCE_BYTES;
-
-pub struct Refusal {
-    pub number: u32,
-    pub place: usize,
-}
-
-pub enum Outcome {
-    Accepted(Counts),
-    Refused(Refusal),
-}
 
 pub struct Names {
     pub count: usize,
@@ -399,52 +387,6 @@ fn walk_lines(
     Walk::Ended(counts)
 }
 
-// "Readers ask for room of these full sizes."
-fn has_room(
-    names: usize,
-    categories: usize,
-    definitions: usize,
-    ranges: usize,
-    references: usize,
-) -> bool
-    ensures { λ r. ⌜ r ≡ roomFor names categories definitions ranges references ⌝ }
-{
-    if names < MAX_NAME_BYTES {
-        return false;
-    }
-    if categories < CATEGORIES_SIZE {
-        return false;
-    }
-    if definitions < DEFINITIONS_SIZE {
-        return false;
-    }
-    if ranges < RANGES_SIZE {
-        return false;
-    }
-    if references < REFERENCES_SIZE {
-        return false;
-    }
-    true
-}
-
-// Zero in every place of tables of the sizes.
-fn zero_all(
-    names: &mut [u8],
-    categories: &mut [u8],
-    definitions: &mut [u8],
-    ranges: &mut [u8],
-    references: &mut [u8],
-)
-    requires { ⌜ Sized (record { names = now names; categories = now categories; definitions = now definitions; ranges = now ranges; references = now references }) ⌝ }
-    ensures { λ _. ⌜ record { names = now (names .exit); categories = now (categories .exit); definitions = now (definitions .exit); ranges = now (ranges .exit); references = now (references .exit) } ≡ inRoom noTables ⌝ }
-{
-    table::zero(names, MAX_NAME_BYTES);
-    table::zero(categories, CATEGORIES_SIZE);
-    table::zero(definitions, DEFINITIONS_SIZE);
-    table::zero(ranges, RANGES_SIZE);
-    table::zero(references, REFERENCES_SIZE);
-}
-
 // The lines walked over tables of the sizes that hold zero. The category table starts as an array of zero slots, filled by interning, and is
 // written out at the end.
 fn fill_tables(
@@ -480,13 +422,13 @@ fn read_lines(
 ) -> Outcome
     requires { ⌜ length (now text) ≤ maxTextBytes ⌝ }
     requires { ⌜ Sized (record { names = now names; categories = now categories; definitions = now definitions; ranges = now ranges; references = now references }) ⌝ }
-    ensures { λ r. ⌜ LinesRead (readAll (now (text .entry))) (record { names = now (names .exit); categories = now (categories .exit); definitions = now (definitions .exit); ranges = now (ranges .exit); references = now (references .exit) }) r ⌝ }
+    ensures { λ r. ⌜ ReadInto (readAll (now (text .entry))) (record { names = now (names .exit); categories = now (categories .exit); definitions = now (definitions .exit); ranges = now (ranges .exit); references = now (references .exit) }) r ⌝ }
 {
-    zero_all(names, categories, definitions, ranges, references);
+    room::zero_all(names, categories, definitions, ranges, references);
     match fill_tables(text, names, categories, definitions, ranges, references) {
         Walk::Ended(counts) => Outcome::Accepted(counts),
         Walk::Stopped(refusal) => {
-            zero_all(names, categories, definitions, ranges, references);
+            room::zero_all(names, categories, definitions, ranges, references);
             Outcome::Refused(refusal)
         }
     }
@@ -503,7 +445,7 @@ pub fn parse(
 ) -> Outcome
     ensures { λ r. ⌜ Parsed (now (text .entry)) (record { names = now (names .entry); categories = now (categories .entry); definitions = now (definitions .entry); ranges = now (ranges .entry); references = now (references .entry) }) (record { names = now (names .exit); categories = now (categories .exit); definitions = now (definitions .exit); ranges = now (ranges .exit); references = now (references .exit) }) r ⌝ }
 {
-    if !has_room(
+    if !room::has_room(
         names.len(),
         categories.len(),
         definitions.len(),

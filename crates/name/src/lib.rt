@@ -4,6 +4,7 @@ use paper::CATEGORIES_FULL;
 use paper::MAX_CATEGORIES;
 use paper::MAX_NAME_BYTES;
 use paper::NAME_BYTES_FULL;
+use paper::Refusal;
 use paper::TABLES_APART;
 use table::CATEGORY_BYTES;
 use table::NAME_LENGTH_AT;
@@ -40,11 +41,6 @@ pub struct Numbered {
 pub enum Entry {
     Number(Numbered),
     Full(u32),
-}
-
-pub struct Refusal {
-    pub number: u32,
-    pub place: usize,
 }
 
 pub enum CategoryFound {

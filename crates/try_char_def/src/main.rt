@@ -2,10 +2,10 @@
 // oracle/README.md has the list's form. Every room is lent with bytes behind its size, and all of them are looked at afterwards.
 ghost use Prim.Native.Nat.{_≤_};
 ghost use Rattle.io.specs.Counts.{Counts as CountsIn};
-use char_def::Outcome;
 use libc::STDIN_FILENO;
 use libc::STDOUT_FILENO;
 use paper::Counts;
+use paper::Outcome;
 
 const LIST_ROOM: usize = 524288;
 

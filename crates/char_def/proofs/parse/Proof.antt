@@ -5,8 +5,10 @@ use native.Mathlib.Omega.{arith}
 use denote.Ref.{now}
 use Rattle.paper.specs.Tables.Layout.{Tables, nameSlotSize, definitionSize, rangeSlotSize, referenceSize}
 use Rattle.paper.specs.Sizes.{maxNameBytes, maxCategories, maxCategoryLines, maxRanges, maxReferences}
-use Rattle.char_def.proofs.Sizes.{lacking, having, roomy, part-long, parts-sized}
-use Rattle.char_def.proofs.Whole.{whole-formed, short-room, long-text, ill-text, lines-parsed}
+use Rattle.paper.specs.Computed.ReadText.{readText}
+use Rattle.room.proofs.Sizes.{lacking, having, roomy, part-long, parts-sized}
+use Rattle.room.proofs.Whole.{short-room}
+use Rattle.char_def.proofs.Whole.{whole-formed, long-text, ill-text, lines-parsed}
 use borrow.Author.Needs.{needs}
 use Rattle.char_def.proofs.parse.Statement.{statement}
 use Rattle.char_def.proofs.parse.Tie as tie
@@ -18,7 +20,7 @@ returns : tie.Need-returns
 returns c =
     let a = (c .before .before .before .before .before .before .before .before .args) in
     let t : Tables = record { names = now (a .names); categories = now (a .categories); definitions = now (a .definitions); ranges = now (a .ranges); references = now (a .references) } in
-    short-room (now (a .text)) t (lacking t ((c .before .has-room .ensures)) ((c .if1 .taken)))
+    short-room (readText (now (a .text))) t (lacking t ((c .before .has-room .ensures)) ((c .if1 .taken)))
 
 returns-2 : tie.Need-returns-2
 returns-2 c =

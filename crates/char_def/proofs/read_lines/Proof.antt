@@ -1,6 +1,8 @@
 -- `char_def::read_lines` meets its contract: tables of the sizes are zero before the walk, and again where it stops. Assumes nothing.
 use native.Mathlib.Omega.{arith}
+use mathlib.Core.Path.{_∙_}
 use borrow.Author.Needs.{needs}
+use Rattle.room.proofs.Sizes.{cleared-sized}
 use Rattle.char_def.proofs.read_lines.Statement.{statement}
 use Rattle.char_def.proofs.read_lines.Tie as tie
 
@@ -8,7 +10,7 @@ zero-all-requires : tie.Need-zero-all-requires
 zero-all-requires c κs = search needs
 
 fill-tables-requires : tie.Need-fill-tables-requires
-fill-tables-requires c κs = search needs
+fill-tables-requires c κs = ((c .before .before .before .before .before .before .before .before .before .before .before .before .before .before .before .before .before .before .before .before .before .before .before .before .before .before .before .pre .0), (c .before .before .before .before .before .before .before .before .before .before .before .before .before .before .before .zero-all .ensures) ∙ cleared-sized _ ((c .before .before .before .before .before .before .before .before .before .before .before .before .before .before .before .before .before .before .before .before .before .before .before .before .before .before .before .pre .1)))
 
 enum-known-counts : tie.Need-enum-known-counts
 enum-known-counts c = search needs
@@ -17,9 +19,7 @@ enum-known-refusal : tie.Need-enum-known-refusal
 enum-known-refusal c = search needs
 
 zero-all-requires-2 : tie.Need-zero-all-requires-2
-zero-all-requires-2 c κs =
-    let s = (c .before .before .before .before .before .before .before .before .before .before .before .before .before .before .before .before .before .before .before .before .before .before .before .before .before .before .before .before .before .before .before .before .before .before .before .before .before .before .before .before .before .before .before .before .before .before .pre .1) in let a = (c .before .before .before .before .before .before .before .before .before .before .before .before .before .before .before .before .before .before .before .before .before .before .before .before .before .before .before .before .before .before .before .before .before .before .zero-all .kept) in let b = (c .before .before .before .before .before .before .before .before .before .before .before .before .before .before .before .before .before .before .fill-tables .kept) in
-    record { names = omega arith; categories = omega arith; definitions = omega arith; ranges = omega arith; references = omega arith }
+zero-all-requires-2 c κs = search needs
 
 same-length : tie.Need-same-length
 same-length c = search needs
@@ -55,7 +55,13 @@ same-length-10 : tie.Need-same-length-10
 same-length-10 c = search needs
 
 returns-2 : tie.Need-returns-2
-returns-2 c = record { is = rw ((c .before .before .before .before .before .before .before .before .before .before .before .before .before .before .before .before .before .refusal .given .1)) at ((c .before .before .before .before .before .before .before .before .before .before .before .before .before .before .before .before .before .before .before .before .before .before .before .before .before .before .before .before .before .fill-tables .ensures)); tables = (c .before .before .before .before .before .before .before .before .before .before .zero-all2 .ensures) }
+returns-2 c =
+    let s = (c .before .before .before .before .before .before .before .before .before .before .before .before .before .before .before .before .before .before .before .before .before .before .before .before .before .before .before .before .before .before .before .before .before .before .before .before .before .before .before .before .before .before .before .before .before .before .before .before .before .before .before .before .before .before .before .before .before .pre .1) in let a = (c .before .before .before .before .before .before .before .before .before .before .before .before .before .before .before .before .before .before .before .before .before .before .before .before .before .before .before .before .before .before .before .before .before .before .before .before .before .before .before .before .before .before .before .before .before .zero-all .kept) in let b = (c .before .before .before .before .before .before .before .before .before .before .before .before .before .before .before .before .before .before .before .before .before .before .before .before .before .before .before .before .before .fill-tables .kept) in
+    record {
+      is = rw ((c .before .before .before .before .before .before .before .before .before .before .before .before .before .before .before .before .before .refusal .given .1)) at ((c .before .before .before .before .before .before .before .before .before .before .before .before .before .before .before .before .before .before .before .before .before .before .before .before .before .before .before .before .before .fill-tables .ensures));
+      tables = (c .before .before .before .before .before .before .before .before .before .before .zero-all2 .ensures)
+          ∙ cleared-sized _ (record { names = omega arith; categories = omega arith; definitions = omega arith; ranges = omega arith; references = omega arith });
+    }
 
 pub read-lines-spec : {M : Type 1} → statement M
 read-lines-spec =
