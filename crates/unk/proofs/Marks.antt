@@ -18,7 +18,7 @@ use Rattle.paper.proofs.Lists.Parts.{take-part}
 use Rattle.paper.proofs.Rows.Lowest.{lowest-first}
 use Rattle.paper.proofs.Tables.Laws.{pieces-length}
 use Rattle.name.specs.Lookup.{said, FindsCategory}
-use Rattle.name.specs.declared.Refusal.{Refusal}
+use Rattle.paper.specs.declared.Refusal.{Refusal}
 use Rattle.name.specs.declared.CategoryFound.{CategoryFound}
 use Rattle.name.specs.declared.CategoryFound.the-variants.{Category, Absent, Refused}
 use Rattle.unk.specs.Lines.{Inside, markSaid, markIn}
