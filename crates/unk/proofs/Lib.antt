@@ -12,3 +12,4 @@ pub mod Room
 pub mod Fill
 pub mod Laid
 pub mod Whole
+pub mod Promise

@@ -24,6 +24,7 @@ use Rattle.paper.specs.Computed.ReadUnk.{Entries, entries-are, stops, readEntri
 use Rattle.paper.specs.Tables.Layout.{Tables, split, pieces, nameSlotOf, nameSlotSize}
 use Rattle.paper.specs.Tables.Reader.{clears}
 use Rattle.paper.specs.declared.Counts.{Counts}
+use Rattle.paper.proofs.Apart.{none-some}
 use Rattle.paper.proofs.Lists.Facts.{true→T}
 use Rattle.paper.proofs.Rows.Numbers.{name-found, name-back}
 use Rattle.paper.proofs.Tables.Laws.{pieces-length}
@@ -69,6 +70,19 @@ module _ (t : Tables) (n : Counts) (h : holds t n ≡ true) where
   few-categories =
       says _ _ _ _ _ n
       (and-yes (enough (length (t .names)) (length (t .categories)) (length (t .definitions)) (length (t .ranges)) (length (t .references)) n) _ (true→T _ h) .0) .limits .0
+
+-- the other way round
+module _ (t : Tables) (n : Counts) (q : Reading) (e : handedIn t n ≡ some q) where
+  pub handed-true : holds t n ≡ true
+  unfolding handedIn
+  handed-true = go (holds t n) e
+    where
+      go : (b : Bool) → cond b (some (decoded t n)) none ≡ some q → b ≡ true
+      go true h = refl
+      go false h = none-some h
+
+  pub handed-decoded : decoded t n ≡ q
+  handed-decoded = let h = sym (handed t n handed-true) ∙ e in cc
 
 -- ---- before any line
 
