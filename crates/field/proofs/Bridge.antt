@@ -15,7 +15,8 @@ use lib.Seq.{drop-cons}
 use borrow.Author.Tests.{le-leb, lt-leb, leb-true, leb-false}
 use Rattle.paper.specs.Refusals.{packEnds}
 use Rattle.paper.specs.Pack.Fields.{byteWidth, bits, bitsOf}
-use Rattle.paper.specs.Computed.ReadPack.{Taken, short, taken, takeNumber, consTaken, afterByte, takeBytes, FieldStep, gave, broke, settle, fieldOr, number, free, bytesField}
+use Rattle.paper.specs.Computed.ReadPack.{Taken, short, taken, takeNumber, consTaken, afterByte, takeBytes}
+use Rattle.paper.specs.Computed.ReadPack.{FieldStep, gave, broke, settle, fieldOr, number, free, bytesField}
 use Rattle.paper.specs.Tables.Lent.{patch}
 use Rattle.paper.proofs.Apart.{zero-one, short-taken}
 use Rattle.paper.proofs.Tables.Laws.{patch-out}

@@ -1,4 +1,5 @@
--- A field of bits is a shift and a mask of the number that the bytes around it are. Assumes nothing.
+-- A field of bits is a shift and a mask of the number that the bytes around it are: one law over the place, the bytes and the width.
+-- Assumes nothing.
 use mathlib.Core.Path.{_≡_, refl, sym, ap, _∙_, subst}
 use mathlib.Core.List.{List}
 use mathlib.Core.Bool.{Bool, true, false}
@@ -25,7 +26,8 @@ lt-or-ge j n = lt-or-by j n (ltb j n) refl
 low-bits : (M b r k : ℕ) → r + 1 + k ≡ 8 → (M * 256 + b) / 2 ^ k % 2 ≡ b / 2 ^ k % 2
 low-bits M b r k e =
     let whole : 2 ^ r * 2 * 2 ^ k ≡ 256 = ap (λ (x : ℕ). x * 2 ^ k) (sym (pow-add 2 r 1)) ∙ sym (pow-add 2 (r + 1) k) ∙ ap (λ (x : ℕ). 2 ^ x) e in
-    let apart : M * 256 ≡ M * 2 ^ r * 2 * 2 ^ k = ap (λ (x : ℕ). M * x) (sym whole) ∙ sym (mul-assoc M (2 ^ r * 2) (2 ^ k)) ∙ ap (λ (x : ℕ). x * 2 ^ k) (sym (mul-assoc M (2 ^ r) 2)) in
+    let apart : M * 256 ≡ M * 2 ^ r * 2 * 2 ^ k =
+    ap (λ (x : ℕ). M * x) (sym whole) ∙ sym (mul-assoc M (2 ^ r * 2) (2 ^ k)) ∙ ap (λ (x : ℕ). x * 2 ^ k) (sym (mul-assoc M (2 ^ r) 2)) in
     ap (λ (x : ℕ). (x + b) / 2 ^ k % 2) apart
     ∙ ap (λ (x : ℕ). x % 2) (mul-add-div-right (pow-pos k) (M * 2 ^ r * 2) b)
     ∙ mul-add-mod-self-right (M * 2 ^ r) 2 (b / 2 ^ k)

@@ -15,8 +15,10 @@ use Rattle.paper.specs.Refusals.{packEnds, packRule, packVersion, packLeftOver}
 use Rattle.paper.specs.Lists.{joined}
 use Rattle.paper.specs.CharDef.Reading.{Definition, Range, Reading, nameBytes, references, Answer, accepted, refused}
 use Rattle.paper.specs.Pack.Fields.{headWidth, definitionWidth, bitsOf}
-use Rattle.paper.specs.Computed.ReadPack.{FieldStep, gave, broke, Reader, afterStep, _▹_, give, demand, isPadding, padding, many, readNames, readDefinition, readRanges, readBody, readFields, readAll, answer, readPack}
-use Rattle.paper.specs.Tables.Layout.{Tables, layout, inRoom, countsOf, nameSlots, rangeSlots, definitionBytes, nameSlotSize, definitionSize, rangeSlotSize, referenceSize}
+use Rattle.paper.specs.Computed.ReadPack.{FieldStep, gave, broke, Reader, afterStep, _▹_, give, demand, isPadding}
+use Rattle.paper.specs.Computed.ReadPack.{padding, many, readNames, readDefinition, readRanges, readBody, readFields, readAll, answer, readPack}
+use Rattle.paper.specs.Tables.Layout.{Tables, layout, inRoom, countsOf, nameSlots}
+use Rattle.paper.specs.Tables.Layout.{rangeSlots, definitionBytes, nameSlotSize, definitionSize, rangeSlotSize, referenceSize}
 use Rattle.paper.specs.Tables.Lent.{patch, padded}
 use Rattle.paper.specs.Tables.Reader.{clears}
 use Rattle.paper.specs.declared.Counts.{Counts}
@@ -186,7 +188,8 @@ module _ (p : List ℕ) where
     body-broke e = from-start ∙ ap answer (stop _ _ (a .reads ∙ e))
 
     module _ (t : Tables) (bytes next : ℕ) (b : BodyIn p from h t bytes next) (r : Bool) (pad : r ≡ isPadding (rest p next)) where
-      ended : (x : Bool) → isPadding (rest p next) ≡ x → _▹_ padding (λ end. give (b .reading)) next (rest p next) ≡ cond x (gave (b .reading) next []) (broke packLeftOver next)
+      ended : (x : Bool) → isPadding (rest p next) ≡ x
+          → _▹_ padding (λ end. give (b .reading)) next (rest p next) ≡ cond x (gave (b .reading) next []) (broke packLeftOver next)
       unfolding padding give
       ended true e = go-on _ _ (ap (λ x. cond x (gave tt next []) (broke packLeftOver next)) e) refl
       ended false e = stop _ _ (ap (λ x. cond x (gave tt next []) (broke packLeftOver next)) e)

@@ -102,7 +102,8 @@ module _ {ns : List (List ℕ)} {names categories : List ℕ} {n used : ℕ} (z 
       let l = names-long in
       let t : List ℕ = joined (map nameSlotBytes (nameSlots 0 (map length ns))) in
       ap₂ (λ k m. map (placed names) (map nameSlotOf (pieces nameSlotSize k m))) (sym slots-count) (z .slotted ∙ padded-is (nameSlotSize * maxCategories) t)
-      ∙ ap (λ m. map (placed names) (map nameSlotOf m)) (pieces-table nameSlotSize nameSlotBytes wide-place (nameSlots 0 (map length ns)) (zeros (nameSlotSize * maxCategories) t))
+      ∙ ap (λ m. map (placed names) (map nameSlotOf m))
+      (pieces-table nameSlotSize nameSlotBytes wide-place (nameSlots 0 (map length ns)) (zeros (nameSlotSize * maxCategories) t))
       ∙ ap (map (placed names)) (slots-read 0 (map length ns) (omega arith))
       ∙ all-placed names 0 ns (zeros maxNameBytes (joined ns)) (z .stored ∙ padded-is maxNameBytes (joined ns)) (omega arith)
 
@@ -121,7 +122,8 @@ placed-at (suc n) categories names k h =
     ∙ elim (ℕ-discrete k n) [
       | yes d ↦ ap (λ m. getD (placedNames n categories names ++ (nameOf n categories names ∷ [])) m []) (d ∙ sym (placed-count n categories names))
           ∙ getD-append-seam (placedNames n categories names) (nameOf n categories names) [] [] ∙ ap (λ m. nameOf m categories names) (sym d)
-      | no d ↦ (let c = placed-count n categories names in List·getD-append (placedNames n categories names) _ [] k (omega arith)) ∙ placed-at n categories names k (omega arith)
+      | no d ↦ (let c = placed-count n categories names in List·getD-append (placedNames n categories names) _ [] k (omega arith))
+          ∙ placed-at n categories names k (omega arith)
     ]
 
 module _ {ns : List (List ℕ)} {s : Store} {n used : ℕ} (z : Named ns s n used) where

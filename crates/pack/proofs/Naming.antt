@@ -12,7 +12,8 @@ use Rattle.paper.specs.Sizes.{maxCategories, maxNameBytes}
 use Rattle.paper.specs.Refusals.{packRule}
 use Rattle.paper.specs.Lists.{any, same}
 use Rattle.paper.specs.Pack.Fields.{byteWidth, nameLengthWidth}
-use Rattle.paper.specs.Computed.ReadPack.{Taken, short, taken, takeBytes, FieldStep, gave, broke, Reader, afterStep, _▹_, give, settle, fieldOr, number, bytesField, lengthRule, nameRule, readName, readNames}
+use Rattle.paper.specs.Computed.ReadPack.{Taken, short, taken, takeBytes, FieldStep, gave, broke, Reader, afterStep}
+use Rattle.paper.specs.Computed.ReadPack.{_▹_, give, settle, fieldOr, number, bytesField, lengthRule, nameRule, readName, readNames}
 use Rattle.paper.specs.Computed.Rules.{formed}
 use Rattle.paper.specs.Tables.Layout.{nameSlotBytes, nameSlotSize}
 use Rattle.paper.specs.Tables.Lent.{patch}

@@ -16,7 +16,7 @@ use Rattle.paper.specs.CharDef.Reading.{Range, references}
 use Rattle.paper.specs.Pack.Fields.{boundWidth, countWidth, numberWidth, rangeWidth}
 use Rattle.paper.specs.Pack.Rules.{isBound}
 use Rattle.paper.specs.Computed.ReadPack.{FieldStep, gave, broke, Reader, afterStep, _▹_, give, number, countRule, many, readRange, readRanges}
-use Rattle.paper.specs.Tables.Layout.{slotBytes, rangeSlots, rangeTable, referenceTable, rangeSlotSize, referenceSize}
+use Rattle.paper.specs.Tables.Layout.{RangeSlot, slotBytes, rangeSlots, rangeTable, referenceTable, rangeSlotSize, referenceSize}
 use Rattle.paper.specs.Tables.Lent.{patch, padded}
 use Rattle.paper.proofs.Lists.Facts.{true→T}
 use Rattle.paper.proofs.Pack.Trip.{bound-bits}
@@ -203,6 +203,7 @@ module _ (p : List ℕ) (known total at₀ n : ℕ) where
         let j : length (gs ++ (x ∷ [])) ≡ length gs + 1 = length-append gs (x ∷ []) in
         let s : references (gs ++ (x ∷ [])) ≡ references gs + length (x .categories) = references-snoc gs x in
         let u : used + length (x .categories) ≡ used + count = omega arith in
+        let slotAt : ℕ → ℕ → RangeSlot = λ m l. record { lower = x .lower; upper = x .upper; first = m; count = l } in
         record {
           all = gs ++ (x ∷ []);
           upto = omega arith;
@@ -213,8 +214,8 @@ module _ (p : List ℕ) (known total at₀ n : ℕ) where
           held =
               record {
                 in-ranges = r .in-ranges
-                    ∙ ap₂ (λ m l. patch (rangeSlotSize * m) (slotBytes (record { lower = x .lower; upper = x .upper; first = used; count = count })) l) (sym sz) (z .held .in-ranges)
-                    ∙ ap₂ (λ m l. patch (rangeSlotSize * length gs) (slotBytes (record { lower = x .lower; upper = x .upper; first = m; count = l })) (padded (rangeSlotSize * maxRanges) (rangeTable gs))) (sym sm) (sym c)
+                    ∙ ap₂ (λ m l. patch (rangeSlotSize * m) (slotBytes (slotAt used count)) l) (sym sz) (z .held .in-ranges)
+                    ∙ ap₂ (λ m l. patch (rangeSlotSize * length gs) (slotBytes (slotAt m l)) (padded (rangeSlotSize * maxRanges) (rangeTable gs))) (sym sm) (sym c)
                     ∙ ranges-more gs x (rangeSlotSize * maxRanges) (omega arith);
                 in-references = r .in-references
                     ∙ ap₂ (λ m l. patch (referenceSize * m) (joined (map (le referenceSize) (x .categories))) l) (sym sm) (z .held .in-references)

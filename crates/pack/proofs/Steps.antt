@@ -9,7 +9,8 @@ use lib.Dec.{leb}
 use borrow.Author.Tests.{le-leb, lt-leb}
 use Rattle.paper.specs.Refusals.{packEnds, packRule}
 use Rattle.paper.specs.Pack.Fields.{byteWidth}
-use Rattle.paper.specs.Computed.ReadPack.{Taken, short, taken, takeNumber, FieldStep, gave, broke, Reader, afterStep, _▹_, settle, fieldOr, number, free, takeBytes, bytesField}
+use Rattle.paper.specs.Computed.ReadPack.{Taken, short, taken, takeNumber, FieldStep, gave, broke, Reader}
+use Rattle.paper.specs.Computed.ReadPack.{afterStep, _▹_, settle, fieldOr, number, free, takeBytes, bytesField}
 use Rattle.paper.proofs.Apart.{true-false}
 use Rattle.paper.proofs.Pack.Verdict.{settle-got}
 use Rattle.field.specs.Cursor.{widest, lastPlace, rest, fieldAt, anyBytes, bytesFieldAt}

@@ -13,7 +13,8 @@ use Rattle.paper.specs.Numbers.Bytes.{le}
 use Rattle.paper.specs.CharDef.Reading.{Range, Reading, nameBytes, references}
 use Rattle.paper.specs.CharDef.Reading as reading
 use Rattle.paper.specs.Pack.Fields.{byteWidth, categoriesWidth, linesWidth, rangesWidth, referencesWidth, nameLengthWidth, numberWidth, definitionWidth, rangeWidth}
-use Rattle.paper.specs.Computed.ReadPack.{FieldStep, gave, broke, Reader, afterStep, _▹_, give, number, upTo, many, bytesField, nameRule, readName, readDefinition, readBody}
+use Rattle.paper.specs.Computed.ReadPack.{FieldStep, gave, broke, Reader, afterStep, _▹_, give}
+use Rattle.paper.specs.Computed.ReadPack.{number, upTo, many, bytesField, nameRule, readName, readDefinition, readBody}
 use Rattle.paper.specs.Tables.Layout.{slotBytes, nameSlotBytes, nameSlots, rangeTable, referenceTable, nameSlotSize, rangeSlotSize, referenceSize}
 use Rattle.paper.specs.Tables.Lent.{patch, padded}
 use Rattle.field.specs.Cursor.{rest}

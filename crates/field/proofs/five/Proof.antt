@@ -62,7 +62,15 @@ unfolding bytesValue
 returns c =
     let a = (c .before .before .before .before .before .before .before .before .before .before .before .before .before .args) in
     let z : getD (a .s .now) (a .i + 0) 0 ≡ getD (a .s .now) (a .i) 0 = ap (λ k. getD (a .s .now) k 0) (add-zero (a .i)) in
-    omega (arith, (c .before .before .before .before .before .before .before .before .before .wide .ensures), (c .before .before .before .before .before .before .before .wide2 .ensures), (c .before .before .before .before .before .wide3 .ensures), (c .before .before .before .wide4 .ensures), (c .before .wide5 .ensures), (c .joined .ensures))
+    omega (
+      arith,
+      (c .before .before .before .before .before .before .before .before .before .wide .ensures),
+      (c .before .before .before .before .before .before .before .wide2 .ensures),
+      (c .before .before .before .before .before .wide3 .ensures),
+      (c .before .before .before .wide4 .ensures),
+      (c .before .wide5 .ensures),
+      (c .joined .ensures),
+    )
 
 byte-or-0-requires : tie.Need-byte-or-0-requires
 byte-or-0-requires c κs = search needs

@@ -30,17 +30,22 @@ is-bound-requires c κs = search needs
 returns : tie.Need-returns
 returns c =
     let a = (c .before .before .before .before .before .before .before .args) in
-    breaks (a .pack .now) (a .from .at) boundWidth (omega arith) (omega arith) (omega arith) packRule isBound (rw (c .before .before .before .v .given .1) at (c .before .before .before .before .before .field .ensures)) (fails _ _ (c .before .is-bound .ensures) (c .if1 .taken))
+    breaks (a .pack .now) (a .from .at) boundWidth (omega arith) (omega arith) (omega arith) packRule isBound
+    (rw (c .before .before .before .v .given .1) at (c .before .before .before .before .before .field .ensures))
+    (fails _ _ (c .before .is-bound .ensures) (c .if1 .taken))
 
 returns-2 : tie.Need-returns-2
 returns-2 c =
     let a = (c .before .before .before .before .before .args) in
-    cut (a .pack .now) (a .from .at) boundWidth (omega arith) (omega arith) (omega arith) packRule isBound (rw (c .before .r .given .1) at (c .before .before .before .field .ensures))
+    cut (a .pack .now) (a .from .at) boundWidth (omega arith) (omega arith) (omega arith) packRule isBound
+    (rw (c .before .r .given .1) at (c .before .before .before .field .ensures))
 
 returns-3 : tie.Need-returns-3
 returns-3 c =
     let a = (c .before .before .before .before .before .before .before .args) in
-    keeps (a .pack .now) (a .from .at) boundWidth (omega arith) (omega arith) (omega arith) packRule isBound (rw (c .before .before .before .v .given .1) at (c .before .before .before .before .before .field .ensures)) (passes _ _ (c .before .is-bound .ensures) (c .if1 .left))
+    keeps (a .pack .now) (a .from .at) boundWidth (omega arith) (omega arith) (omega arith) packRule isBound
+    (rw (c .before .before .before .v .given .1) at (c .before .before .before .before .before .field .ensures))
+    (passes _ _ (c .before .is-bound .ensures) (c .if1 .left))
 
 pub bound-field-spec : {M : Type 1} → statement M
 bound-field-spec =

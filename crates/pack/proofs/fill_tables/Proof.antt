@@ -17,8 +17,14 @@ enum-known-head c = search needs
 read-body-requires : tie.Need-read-body-requires
 read-body-requires c κs =
     let a = (c .before .before .before .before .before .before .before .before .before .before .before .before .before .before .before .args) in
-    let h = (rw (c .before .before .before .before .before .before .head .given .1) at (c .before .before .before .before .before .before .before .before .read-head .ensures)) in
-    (body-near (a .pack .now) _ _ h, (head-fits (a .pack .now) _ _ h, (c .before .before .before .before .before .before .before .before .before .before .before .before .before .before .before .pre)))
+    let h = (rw (c .before .before .before .before .before .before .head .given .1) at
+    (c .before .before .before .before .before .before .before .before .read-head .ensures)) in (
+      body-near (a .pack .now) _ _ h,
+      (
+        head-fits (a .pack .now) _ _ h,
+        (c .before .before .before .before .before .before .before .before .before .before .before .before .before .before .before .pre),
+      ),
+    )
 
 enum-known-r-2 : tie.Need-enum-known-r-2
 enum-known-r-2 c = search needs
@@ -28,7 +34,8 @@ enum-known-bytes c = search needs
 
 is-padding-requires : tie.Need-is-padding-requires
 is-padding-requires c κs =
-    let b = (rw (c .before .bytes .given .1) at (c .before .before .before .before .before .before .before .before .before .before .before .before .before .read-body .ensures)) in
+    let b = (rw (c .before .bytes .given .1) at
+    (c .before .before .before .before .before .before .before .before .before .before .before .before .before .read-body .ensures)) in
     b .near
 
 same-length : tie.Need-same-length
@@ -48,8 +55,16 @@ same-length-5 c = search needs
 
 returns : tie.Need-returns
 returns c =
-    let a = (c .before .before .before .before .before .before .before .before .before .before .before .before .before .before .before .before .before .before .before .before .before .before .before .before .before .before .before .before .before .before .before .args) in
-    left-over (a .pack .now) _ _ (rw (c .before .before .before .before .before .before .before .before .before .before .before .before .before .before .before .before .before .before .before .before .before .before .head .given .1) at (c .before .before .before .before .before .before .before .before .before .before .before .before .before .before .before .before .before .before .before .before .before .before .before .before .read-head .ensures)) _ _ _ (rw (c .before .before .before .bytes .given .1) at (c .before .before .before .before .before .before .before .before .before .before .before .before .before .before .before .read-body .ensures)) _ (c .before .is-padding .ensures) (c .if1 .taken)
+    let a = (c .before .before .before .before .before .before .before .before .before .before .before .before .before .before .before .before .before .before
+    .before .before .before .before .before .before .before .before .before .before .before .before .before .args) in
+    left-over (a .pack .now) _ _
+    (rw (c .before .before .before .before .before .before .before .before .before .before .before .before .before .before .before .before .before .before .before
+    .before .before .before .head .given .1) at
+    (c .before .before .before .before .before .before .before .before .before .before .before .before .before .before .before .before .before .before .before
+    .before .before .before .before .before .read-head .ensures)) _ _ _
+    (rw (c .before .before .before .bytes .given .1) at
+    (c .before .before .before .before .before .before .before .before .before .before .before .before .before .before .before .read-body .ensures)) _
+    (c .before .is-padding .ensures) (c .if1 .taken)
 
 returns-2 : tie.Need-returns-2
 returns-2 c =
@@ -73,8 +88,14 @@ same-length-10 c = search needs
 
 returns-3 : tie.Need-returns-3
 returns-3 c =
-    let a = (c .before .before .before .before .before .before .before .before .before .before .before .before .before .before .before .before .before .before .before .before .before .before .before .before .before .before .before .before .before .args) in
-    body-broke (a .pack .now) _ _ (rw (c .before .before .before .before .before .before .before .before .before .before .before .before .before .before .before .before .before .before .before .before .head .given .1) at (c .before .before .before .before .before .before .before .before .before .before .before .before .before .before .before .before .before .before .before .before .before .before .read-head .ensures)) (rw (c .before .r2 .given .1) at (c .before .before .before .before .before .before .before .before .before .before .before .before .before .read-body .ensures))
+    let a = (c .before .before .before .before .before .before .before .before .before .before .before .before .before .before .before .before .before .before
+    .before .before .before .before .before .before .before .before .before .before .before .args) in
+    body-broke (a .pack .now) _ _
+    (rw (c .before .before .before .before .before .before .before .before .before .before .before .before .before .before .before .before .before .before .before
+    .before .head .given .1) at
+    (c .before .before .before .before .before .before .before .before .before .before .before .before .before .before .before .before .before .before .before
+    .before .before .before .read-head .ensures))
+    (rw (c .before .r2 .given .1) at (c .before .before .before .before .before .before .before .before .before .before .before .before .before .read-body .ensures))
 
 same-length-11 : tie.Need-same-length-11
 same-length-11 c = search needs
@@ -93,8 +114,16 @@ same-length-15 c = search needs
 
 returns-4 : tie.Need-returns-4
 returns-4 c =
-    let a = (c .before .before .before .before .before .before .before .before .before .before .before .before .before .before .before .before .before .before .before .before .before .before .before .before .before .before .before .before .before .before .before .args) in
-    all-in (a .pack .now) _ _ (rw (c .before .before .before .before .before .before .before .before .before .before .before .before .before .before .before .before .before .before .before .before .before .before .head .given .1) at (c .before .before .before .before .before .before .before .before .before .before .before .before .before .before .before .before .before .before .before .before .before .before .before .before .read-head .ensures)) _ _ _ (rw (c .before .before .before .bytes .given .1) at (c .before .before .before .before .before .before .before .before .before .before .before .before .before .before .before .read-body .ensures)) _ (c .before .is-padding .ensures) (c .if1 .left)
+    let a = (c .before .before .before .before .before .before .before .before .before .before .before .before .before .before .before .before .before .before
+    .before .before .before .before .before .before .before .before .before .before .before .before .before .args) in
+    all-in (a .pack .now) _ _
+    (rw (c .before .before .before .before .before .before .before .before .before .before .before .before .before .before .before .before .before .before .before
+    .before .before .before .head .given .1) at
+    (c .before .before .before .before .before .before .before .before .before .before .before .before .before .before .before .before .before .before .before
+    .before .before .before .before .before .read-head .ensures)) _ _ _
+    (rw (c .before .before .before .bytes .given .1) at
+    (c .before .before .before .before .before .before .before .before .before .before .before .before .before .before .before .read-body .ensures)) _
+    (c .before .is-padding .ensures) (c .if1 .left)
 
 pub fill-tables-spec : {M : Type 1} → statement M
 fill-tables-spec =

@@ -8,12 +8,12 @@ use Rattle.pack.proofs.is_padding.Tie as tie
 returns : tie.Need-returns
 returns c =
     let a = (c .before .before .before .before .args) in
-    nothing-left (a .pack .now) (a .from .at) (c .if1 .taken)
+    nothing-left (a .pack .now) (a .from .at) (omega arith)
 
 returns-2 : tie.Need-returns-2
 returns-2 c =
     let a = (c .before .before .before .before .before .args) in
-    whole-byte (a .pack .now) (a .from .at) (c .if2 .taken) (omega arith)
+    whole-byte (a .pack .now) (a .from .at) (omega arith) (omega arith)
 
 add-if3 : tie.Need-add-if3
 add-if3 c = search needs
@@ -21,7 +21,7 @@ add-if3 c = search needs
 returns-3 : tie.Need-returns-3
 returns-3 c =
     let a = (c .before .before .before .before .before .before .args) in
-    bytes-over (a .pack .now) (a .from .at) (c .if3 .taken)
+    bytes-over (a .pack .now) (a .from .at) (omega arith)
 
 sub-field : tie.Need-sub-field
 sub-field c = search needs
@@ -38,12 +38,14 @@ enum-known-v c = search needs
 returns-4 : tie.Need-returns-4
 returns-4 c =
     let a = (c .before .before .before .before .before .before .before .before .before .args) in
-    never-cut (a .pack .now) (a .from .at) (omega arith) (omega arith) (omega arith) (omega arith) (rw (c .enum-told .given .1) at (c .before .before .field .ensures))
+    never-cut (a .pack .now) (a .from .at) (omega arith) (omega arith) (omega arith) (omega arith)
+    (rw (c .enum-told .given .1) at (c .before .before .field .ensures))
 
 returns-5 : tie.Need-returns-5
 returns-5 c =
     let a = (c .before .before .before .before .before .before .before .before .before .before .args) in
-    last-bits (a .pack .now) (a .from .at) (omega arith) (omega arith) (omega arith) (omega arith) (rw (c .before .v .given .1) at (c .before .before .before .field .ensures))
+    last-bits (a .pack .now) (a .from .at) (omega arith) (omega arith) (omega arith) (omega arith)
+    (rw (c .before .v .given .1) at (c .before .before .before .field .ensures))
 
 pub is-padding-spec : {M : Type 1} → statement M
 is-padding-spec =

@@ -24,17 +24,20 @@ cast-if1 c = search needs
 returns : tie.Need-returns
 returns c =
     let a = (c .before .before .before .before .before .before .args) in
-    breaks (a .pack .now) (a .from .at) numberWidth (omega arith) (omega arith) (omega arith) packRule (λ x. ltb x (a .known)) (rw (c .before .before .v .given .1) at (c .before .before .before .before .field .ensures)) (le-ltb _ _ (c .if1 .taken))
+    breaks (a .pack .now) (a .from .at) numberWidth (omega arith) (omega arith) (omega arith) packRule (λ x. ltb x (a .known))
+    (rw (c .before .before .v .given .1) at (c .before .before .before .before .field .ensures)) (le-ltb (c .before .before .v .given .0 .0) (a .known) (omega arith))
 
 returns-2 : tie.Need-returns-2
 returns-2 c =
     let a = (c .before .before .before .before .before .args) in
-    cut (a .pack .now) (a .from .at) numberWidth (omega arith) (omega arith) (omega arith) packRule (λ x. ltb x (a .known)) (rw (c .before .r .given .1) at (c .before .before .before .field .ensures))
+    cut (a .pack .now) (a .from .at) numberWidth (omega arith) (omega arith) (omega arith) packRule (λ x. ltb x (a .known))
+    (rw (c .before .r .given .1) at (c .before .before .before .field .ensures))
 
 returns-3 : tie.Need-returns-3
 returns-3 c =
     let a = (c .before .before .before .before .before .before .args) in
-    keeps (a .pack .now) (a .from .at) numberWidth (omega arith) (omega arith) (omega arith) packRule (λ x. ltb x (a .known)) (rw (c .before .before .v .given .1) at (c .before .before .before .before .field .ensures)) (lt-ltb _ _ (c .if1 .left))
+    keeps (a .pack .now) (a .from .at) numberWidth (omega arith) (omega arith) (omega arith) packRule (λ x. ltb x (a .known))
+    (rw (c .before .before .v .given .1) at (c .before .before .before .before .field .ensures)) (lt-ltb (c .before .before .v .given .0 .0) (a .known) (omega arith))
 
 pub known-field-spec : {M : Type 1} → statement M
 known-field-spec =

@@ -19,7 +19,7 @@ enum-known-ranges c = search needs
 limited-requires-2 : tie.Need-limited-requires-2
 limited-requires-2 c κs =
     let a = (c .before .before .before .before .before .args) in
-    let x = within (a .pack .now) rangesWidth maxRanges (a .from .at) (rw (c .before .ranges .given .1) at (c .before .before .before .limited .ensures)) in
+    let x = within (a .pack .now) rangesWidth _ (a .from .at) (rw (c .before .ranges .given .1) at (c .before .before .before .limited .ensures)) in
     (omega arith, omega arith)
 
 enum-known-r-2 : tie.Need-enum-known-r-2
@@ -42,12 +42,16 @@ returns c =
 returns-2 : tie.Need-returns-2
 returns-2 c =
     let a = (c .before .before .before .before .before .before .before .before .before .args) in
-    last-stop-2 (a .pack .now) (a .from .at) (a .categories) (a .lines) (rw (c .before .before .before .before .before .ranges .given .1) at (c .before .before .before .before .before .before .before .limited .ensures)) (rw (c .before .r2 .given .1) at (c .before .before .before .limited2 .ensures))
+    last-stop-2 (a .pack .now) (a .from .at) (a .categories) (a .lines)
+    (rw (c .before .before .before .before .before .ranges .given .1) at (c .before .before .before .before .before .before .before .limited .ensures))
+    (rw (c .before .r2 .given .1) at (c .before .before .before .limited2 .ensures))
 
 returns-3 : tie.Need-returns-3
 returns-3 c =
     let a = (c .before .before .before .before .before .before .before .before .before .args) in
-    last-read (a .pack .now) (a .from .at) (a .categories) (a .lines) (rw (c .before .before .before .before .before .ranges .given .1) at (c .before .before .before .before .before .before .before .limited .ensures)) (rw (c .before .references .given .1) at (c .before .before .before .limited2 .ensures)) (omega arith) (omega arith)
+    last-read (a .pack .now) (a .from .at) (a .categories) (a .lines)
+    (rw (c .before .before .before .before .before .ranges .given .1) at (c .before .before .before .before .before .before .before .limited .ensures))
+    (rw (c .before .references .given .1) at (c .before .before .before .limited2 .ensures)) (omega arith) (omega arith)
 
 pub last-counts-spec : {M : Type 1} → statement M
 last-counts-spec =

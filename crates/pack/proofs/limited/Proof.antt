@@ -1,4 +1,5 @@
 -- `pack::limited` meets its contract. Assumes nothing.
+use Prim.Native.Nat.{_+_}
 use native.Mathlib.Omega.{arith}
 use Rattle.paper.specs.Refusals.{packRule}
 use Rattle.pack.proofs.Steps.{cut, keeps, breaks}
@@ -26,17 +27,20 @@ add-if1 c = search needs
 returns : tie.Need-returns
 returns c =
     let a = (c .before .before .before .before .before .before .args) in
-    breaks (a .pack .now) (a .from .at) (a .width) (omega arith) (omega arith) (omega arith) packRule (countRule (a .limit) (a .used)) (rw (c .before .before .v .given .1) at (c .before .before .before .before .field .ensures)) (lt-leb _ _ (c .if1 .taken))
+    breaks (a .pack .now) (a .from .at) (a .width) (omega arith) (omega arith) (omega arith) packRule (countRule (a .limit) (a .used))
+    (rw (c .before .before .v .given .1) at (c .before .before .before .before .field .ensures)) (lt-leb (a .used + (c .before .before .v .given .0 .0)) (a .limit) (omega arith))
 
 returns-2 : tie.Need-returns-2
 returns-2 c =
     let a = (c .before .before .before .before .before .args) in
-    cut (a .pack .now) (a .from .at) (a .width) (omega arith) (omega arith) (omega arith) packRule (countRule (a .limit) (a .used)) (rw (c .before .r .given .1) at (c .before .before .before .field .ensures))
+    cut (a .pack .now) (a .from .at) (a .width) (omega arith) (omega arith) (omega arith) packRule (countRule (a .limit) (a .used))
+    (rw (c .before .r .given .1) at (c .before .before .before .field .ensures))
 
 returns-3 : tie.Need-returns-3
 returns-3 c =
     let a = (c .before .before .before .before .before .before .args) in
-    keeps (a .pack .now) (a .from .at) (a .width) (omega arith) (omega arith) (omega arith) packRule (countRule (a .limit) (a .used)) (rw (c .before .before .v .given .1) at (c .before .before .before .before .field .ensures)) (le-leb _ _ (c .if1 .left))
+    keeps (a .pack .now) (a .from .at) (a .width) (omega arith) (omega arith) (omega arith) packRule (countRule (a .limit) (a .used))
+    (rw (c .before .before .v .given .1) at (c .before .before .before .before .field .ensures)) (le-leb (a .used + (c .before .before .v .given .0 .0)) (a .limit) (omega arith))
 
 pub limited-spec : {M : Type 1} → statement M
 limited-spec =

@@ -29,7 +29,8 @@ returns : tie.Need-returns
 returns c =
     let a = (c .before .before .before .before .before .before .args) in
     let k : a .start + a .len - a .start ≡ a .len = omega arith in
-    λ ns name z size. ill ns name (record { names = a .names .now; categories = a .categories .now; marks = a .marks .now }) (a .i) (a .start) (a .len) z size _ k _ (c .before .is-formed .ensures) (c .if1 .taken)
+    λ ns name z size. ill ns name (record { names = a .names .now; categories = a .categories .now; marks = a .marks .now }) (a .i) (a .start) (a .len) z size _ k _
+    (c .before .is-formed .ensures) (c .if1 .taken)
 
 is-new-requires : tie.Need-is-new-requires
 is-new-requires c κs =
@@ -43,7 +44,8 @@ returns-2 : tie.Need-returns-2
 returns-2 c =
     let a = (c .before .before .before .before .before .before .before .args) in
     let k : a .start + a .len - a .start ≡ a .len = omega arith in
-    λ ns name z size. new-or-not ns name (record { names = a .names .now; categories = a .categories .now; marks = a .marks .now }) (a .i) (a .start) (a .len) z size _ k _ (c .before .before .is-formed .ensures) (c .before .if1 .left) _ (c .is-new .ensures)
+    λ ns name z size. new-or-not ns name (record { names = a .names .now; categories = a .categories .now; marks = a .marks .now }) (a .i) (a .start) (a .len) z
+    size _ k _ (c .before .before .is-formed .ensures) (c .before .if1 .left) _ (c .is-new .ensures)
 
 pub name-kept-spec : {M : Type 1} → statement M
 name-kept-spec =

@@ -58,7 +58,8 @@ returns : tie.Need-returns
 returns c =
     let a = (c .before .before .before .before .before .before .before .before .before .before .before .before .before .args) in
     let k : a .start + a .len - a .start ≡ a .len = omega arith in (
-      two-puts _ _ _ _ _ _ (omega arith) (c .before .before .before .before .before .before .before .before .put-u16 .ensures) (c .before .before .before .before .put-u162 .ensures),
+      two-puts _ _ _ _ _ _ (omega arith) (c .before .before .before .before .before .before .before .before .put-u16 .ensures)
+          (c .before .before .before .before .put-u162 .ensures),
       ap (set (a .marks .now) (a .i)) ((c .mark-of .ensures) ∙ ap (λ m. mark (take m (drop (a .start) (a .names .now)))) k),
     )
 

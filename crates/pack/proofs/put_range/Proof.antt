@@ -33,7 +33,11 @@ same-length : tie.Need-same-length
 same-length c = search needs
 
 returns : tie.Need-returns
-returns c = four-puts _ _ _ _ _ _ _ _ _ _ (omega arith) (c .before .before .before .before .before .before .before .before .before .before .before .before .before .before .put-u16 .ensures) (c .before .before .before .before .before .before .before .before .before .before .put-u162 .ensures) (c .before .before .before .before .before .before .put-u163 .ensures) (c .before .before .put-u164 .ensures)
+returns c =
+    four-puts _ _ _ _ _ _ _ _ _ _ (omega arith)
+    (c .before .before .before .before .before .before .before .before .before .before .before .before .before .before .put-u16 .ensures)
+    (c .before .before .before .before .before .before .before .before .before .before .put-u162 .ensures)
+    (c .before .before .before .before .before .before .put-u163 .ensures) (c .before .before .put-u164 .ensures)
 
 pub put-range-spec : {M : Type 1} → statement M
 put-range-spec =

@@ -19,9 +19,11 @@ enum-known-bytes c = search needs
 
 read-tail-requires : tie.Need-read-tail-requires
 read-tail-requires c κs =
-    let q = (c .before .before .before .before .before .before .before .before .before .before .before .before .before .before .before .before .before .before .before .pre) in
+    let q = (c .before .before .before .before .before .before .before .before .before .before .before .before .before .before .before .before .before .before
+    .before .pre) in
     let near = q .0 in
-    let n = (rw (c .before .before .before .before .bytes .given .1) at (c .before .before .before .before .before .before .before .before .before .before .read-names .ensures)) in
+    let n = (rw (c .before .before .before .before .bytes .given .1) at
+    (c .before .before .before .before .before .before .before .before .before .before .read-names .ensures)) in
     let o = n .on in
     let s = n .held .short in
     (omega arith, (q .1 .0, (no-definitions (q .1 .1), no-ranges (q .1 .1))))
@@ -41,7 +43,8 @@ same-length-2 c = search needs
 returns : tie.Need-returns
 returns c =
     let a = (c .before .before .before .before .before .before .before .before .before .before .before .before .before .before .before .before .args) in
-    names-broke (a .pack .now) (a .from .at) (a .head) (rw (c .before .r .given .1) at (c .before .before .before .before .before .before .before .read-names .ensures))
+    names-broke (a .pack .now) (a .from .at) (a .head)
+    (rw (c .before .r .given .1) at (c .before .before .before .before .before .before .before .read-names .ensures))
 
 same-length-3 : tie.Need-same-length-3
 same-length-3 c = search needs
@@ -60,8 +63,12 @@ same-length-7 c = search needs
 
 returns-2 : tie.Need-returns-2
 returns-2 c =
-    let a = (c .before .before .before .before .before .before .before .before .before .before .before .before .before .before .before .before .before .before .before .before .before .before .before .before .before .before .before .before .before .args) in
-    tail-broke (a .pack .now) (a .from .at) (a .head) _ _ _ _ (rw (c .before .before .before .before .before .before .before .before .before .before .before .before .before .before .bytes .given .1) at (c .before .before .before .before .before .before .before .before .before .before .before .before .before .before .before .before .before .before .before .before .read-names .ensures)) (rw (c .before .r2 .given .1) at (c .before .before .before .before .before .before .before .before .before .read-tail .ensures))
+    let a = (c .before .before .before .before .before .before .before .before .before .before .before .before .before .before .before .before .before .before
+    .before .before .before .before .before .before .before .before .before .before .before .args) in
+    tail-broke (a .pack .now) (a .from .at) (a .head) _ _ _ _
+    (rw (c .before .before .before .before .before .before .before .before .before .before .before .before .before .before .bytes .given .1) at
+    (c .before .before .before .before .before .before .before .before .before .before .before .before .before .before .before .before .before .before .before
+    .before .read-names .ensures)) (rw (c .before .r2 .given .1) at (c .before .before .before .before .before .before .before .before .before .read-tail .ensures))
 
 same-length-8 : tie.Need-same-length-8
 same-length-8 c = search needs
@@ -80,8 +87,13 @@ same-length-12 c = search needs
 
 returns-3 : tie.Need-returns-3
 returns-3 c =
-    let a = (c .before .before .before .before .before .before .before .before .before .before .before .before .before .before .before .before .before .before .before .before .before .before .before .before .before .before .before .before .before .args) in
-    body-in (a .pack .now) (a .from .at) (a .head) _ _ _ _ (rw (c .before .before .before .before .before .before .before .before .before .before .before .before .before .before .bytes .given .1) at (c .before .before .before .before .before .before .before .before .before .before .before .before .before .before .before .before .before .before .before .before .read-names .ensures)) _ _ _ (rw (c .before .next .given .1) at (c .before .before .before .before .before .before .before .before .before .read-tail .ensures))
+    let a = (c .before .before .before .before .before .before .before .before .before .before .before .before .before .before .before .before .before .before
+    .before .before .before .before .before .before .before .before .before .before .before .args) in
+    body-in (a .pack .now) (a .from .at) (a .head) _ _ _ _
+    (rw (c .before .before .before .before .before .before .before .before .before .before .before .before .before .before .bytes .given .1) at
+    (c .before .before .before .before .before .before .before .before .before .before .before .before .before .before .before .before .before .before .before
+    .before .read-names .ensures)) _ _ _
+    (rw (c .before .next .given .1) at (c .before .before .before .before .before .before .before .before .before .read-tail .ensures))
 
 pub read-body-spec : {M : Type 1} → statement M
 read-body-spec =

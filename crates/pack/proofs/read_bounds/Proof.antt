@@ -29,7 +29,8 @@ enum-known-upper c = search needs
 limited-requires : tie.Need-limited-requires
 limited-requires c κs =
     let a = (c .before .before .before .before .before .before .before .before .before .args) in
-    let x = bounded (a .pack .now) (a .from .at) (rw (c .before .before .before .before .before .lower .given .1) at (c .before .before .before .before .before .before .before .bound-field .ensures)) in
+    let x = bounded (a .pack .now) (a .from .at)
+    (rw (c .before .before .before .before .before .lower .given .1) at (c .before .before .before .before .before .before .before .bound-field .ensures)) in
     let y = bounded (a .pack .now) _ (rw (c .before .upper .given .1) at (c .before .before .before .bound-field2 .ensures)) in
     ((omega arith, (omega arith, omega arith)), omega arith)
 
@@ -42,13 +43,16 @@ enum-known-count c = search needs
 cast-t21 : tie.Need-cast-t21
 cast-t21 c =
     let a = (c .before .before .before .before .before .before .before .before .before .before .before .before .before .args) in
-    let x = bounded (a .pack .now) (a .from .at) (rw (c .before .before .before .before .before .before .before .before .before .lower .given .1) at (c .before .before .before .before .before .before .before .before .before .before .before .bound-field .ensures)) in
+    let x = bounded (a .pack .now) (a .from .at)
+    (rw (c .before .before .before .before .before .before .before .before .before .lower .given .1) at
+    (c .before .before .before .before .before .before .before .before .before .before .before .bound-field .ensures)) in
     omega arith
 
 cast-t22 : tie.Need-cast-t22
 cast-t22 c =
     let a = (c .before .before .before .before .before .before .before .before .before .before .before .before .before .args) in
-    let y = bounded (a .pack .now) _ (rw (c .before .before .before .before .before .upper .given .1) at (c .before .before .before .before .before .before .before .bound-field2 .ensures)) in
+    let y = bounded (a .pack .now) _
+    (rw (c .before .before .before .before .before .upper .given .1) at (c .before .before .before .before .before .before .before .bound-field2 .ensures)) in
     omega arith
 
 cast-t23 : tie.Need-cast-t23
@@ -62,17 +66,27 @@ returns c =
 returns-2 : tie.Need-returns-2
 returns-2 c =
     let a = (c .before .before .before .before .before .before .before .before .before .args) in
-    upper-broke (a .pack .now) (a .from .at) (a .known) (a .total) (a .used) (rw (c .before .before .before .before .before .lower .given .1) at (c .before .before .before .before .before .before .before .bound-field .ensures)) (rw (c .before .r2 .given .1) at (c .before .before .before .bound-field2 .ensures))
+    upper-broke (a .pack .now) (a .from .at) (a .known) (a .total) (a .used)
+    (rw (c .before .before .before .before .before .lower .given .1) at (c .before .before .before .before .before .before .before .bound-field .ensures))
+    (rw (c .before .r2 .given .1) at (c .before .before .before .bound-field2 .ensures))
 
 returns-3 : tie.Need-returns-3
 returns-3 c =
     let a = (c .before .before .before .before .before .before .before .before .before .before .before .before .before .args) in
-    count-broke (a .pack .now) (a .from .at) (a .known) (a .total) (a .used) (rw (c .before .before .before .before .before .before .before .before .before .lower .given .1) at (c .before .before .before .before .before .before .before .before .before .before .before .bound-field .ensures)) (rw (c .before .before .before .before .before .upper .given .1) at (c .before .before .before .before .before .before .before .bound-field2 .ensures)) (rw (c .before .r3 .given .1) at (c .before .before .before .limited .ensures))
+    count-broke (a .pack .now) (a .from .at) (a .known) (a .total) (a .used)
+    (rw (c .before .before .before .before .before .before .before .before .before .lower .given .1) at
+    (c .before .before .before .before .before .before .before .before .before .before .before .bound-field .ensures))
+    (rw (c .before .before .before .before .before .upper .given .1) at (c .before .before .before .before .before .before .before .bound-field2 .ensures))
+    (rw (c .before .r3 .given .1) at (c .before .before .before .limited .ensures))
 
 returns-4 : tie.Need-returns-4
 returns-4 c =
     let a = (c .before .before .before .before .before .before .before .before .before .before .before .before .before .args) in
-    bounds-read (a .pack .now) (a .from .at) (a .known) (a .total) (a .used) (rw (c .before .before .before .before .before .before .before .before .before .lower .given .1) at (c .before .before .before .before .before .before .before .before .before .before .before .bound-field .ensures)) (rw (c .before .before .before .before .before .upper .given .1) at (c .before .before .before .before .before .before .before .bound-field2 .ensures)) (rw (c .before .count .given .1) at (c .before .before .before .limited .ensures))
+    bounds-read (a .pack .now) (a .from .at) (a .known) (a .total) (a .used)
+    (rw (c .before .before .before .before .before .before .before .before .before .lower .given .1) at
+    (c .before .before .before .before .before .before .before .before .before .before .before .bound-field .ensures))
+    (rw (c .before .before .before .before .before .upper .given .1) at (c .before .before .before .before .before .before .before .bound-field2 .ensures))
+    (rw (c .before .count .given .1) at (c .before .before .before .limited .ensures))
 
 pub read-bounds-spec : {M : Type 1} → statement M
 read-bounds-spec =

@@ -19,7 +19,7 @@ enum-known-categories c = search needs
 limited-requires-2 : tie.Need-limited-requires-2
 limited-requires-2 c κs =
     let a = (c .before .before .before .before .before .args) in
-    let x = within (a .pack .now) categoriesWidth maxCategories (a .from .at) (rw (c .before .categories .given .1) at (c .before .before .before .limited .ensures)) in
+    let x = within (a .pack .now) categoriesWidth _ (a .from .at) (rw (c .before .categories .given .1) at (c .before .before .before .limited .ensures)) in
     (omega arith, omega arith)
 
 enum-known-r-2 : tie.Need-enum-known-r-2
@@ -37,8 +37,9 @@ cast-last-counts-2 c = search needs
 last-counts-requires : tie.Need-last-counts-requires
 last-counts-requires c κs =
     let a = (c .before .before .before .before .before .before .before .before .before .args) in
-    let x = within (a .pack .now) categoriesWidth maxCategories (a .from .at) (rw (c .before .before .before .before .before .categories .given .1) at (c .before .before .before .before .before .before .before .limited .ensures)) in
-    let y = within (a .pack .now) linesWidth maxCategoryLines _ (rw (c .before .lines .given .1) at (c .before .before .before .limited2 .ensures)) in
+    let x = within (a .pack .now) categoriesWidth _ (a .from .at)
+    (rw (c .before .before .before .before .before .categories .given .1) at (c .before .before .before .before .before .before .before .limited .ensures)) in
+    let y = within (a .pack .now) linesWidth _ _ (rw (c .before .lines .given .1) at (c .before .before .before .limited2 .ensures)) in
     (omega arith, (omega arith, omega arith))
 
 returns : tie.Need-returns
@@ -49,12 +50,17 @@ returns c =
 returns-2 : tie.Need-returns-2
 returns-2 c =
     let a = (c .before .before .before .before .before .before .before .before .before .args) in
-    first-stop-2 (a .pack .now) (a .from .at) (rw (c .before .before .before .before .before .categories .given .1) at (c .before .before .before .before .before .before .before .limited .ensures)) (rw (c .before .r2 .given .1) at (c .before .before .before .limited2 .ensures))
+    first-stop-2 (a .pack .now) (a .from .at)
+    (rw (c .before .before .before .before .before .categories .given .1) at (c .before .before .before .before .before .before .before .limited .ensures))
+    (rw (c .before .r2 .given .1) at (c .before .before .before .limited2 .ensures))
 
 returns-3 : tie.Need-returns-3
 returns-3 c =
     let a = (c .before .before .before .before .before .before .before .before .before .before .args) in
-    first-read (a .pack .now) (a .from .at) (rw (c .before .before .before .before .before .before .categories .given .1) at (c .before .before .before .before .before .before .before .before .limited .ensures)) (rw (c .before .before .lines .given .1) at (c .before .before .before .before .limited2 .ensures)) (c .last-counts .result) (c .last-counts .ensures)
+    first-read (a .pack .now) (a .from .at)
+    (rw (c .before .before .before .before .before .before .categories .given .1) at
+    (c .before .before .before .before .before .before .before .before .limited .ensures))
+    (rw (c .before .before .lines .given .1) at (c .before .before .before .before .limited2 .ensures)) (c .last-counts .result) (c .last-counts .ensures)
 
 pub read-counts-spec : {M : Type 1} → statement M
 read-counts-spec =

@@ -40,17 +40,27 @@ returns c =
 returns-2 : tie.Need-returns-2
 returns-2 c =
     let a = (c .before .before .before .before .before .before .before .before .before .args) in
-    group-cut (a .pack .now) (a .from .at) (omega arith) (rw (c .before .before .before .before .before .invoke .given .1) at (c .before .before .before .before .before .before .before .field .ensures)) (rw (c .before .r2 .given .1) at (c .before .before .before .field2 .ensures))
+    group-cut (a .pack .now) (a .from .at) (omega arith)
+    (rw (c .before .before .before .before .before .invoke .given .1) at (c .before .before .before .before .before .before .before .field .ensures))
+    (rw (c .before .r2 .given .1) at (c .before .before .before .field2 .ensures))
 
 returns-3 : tie.Need-returns-3
 returns-3 c =
     let a = (c .before .before .before .before .before .before .before .before .before .before .before .before .before .args) in
-    length-cut (a .pack .now) (a .from .at) (omega arith) (rw (c .before .before .before .before .before .before .before .before .before .invoke .given .1) at (c .before .before .before .before .before .before .before .before .before .before .before .field .ensures)) (rw (c .before .before .before .before .before .group .given .1) at (c .before .before .before .before .before .before .before .field2 .ensures)) (rw (c .before .r3 .given .1) at (c .before .before .before .field3 .ensures))
+    length-cut (a .pack .now) (a .from .at) (omega arith)
+    (rw (c .before .before .before .before .before .before .before .before .before .invoke .given .1) at
+    (c .before .before .before .before .before .before .before .before .before .before .before .field .ensures))
+    (rw (c .before .before .before .before .before .group .given .1) at (c .before .before .before .before .before .before .before .field2 .ensures))
+    (rw (c .before .r3 .given .1) at (c .before .before .before .field3 .ensures))
 
 returns-4 : tie.Need-returns-4
 returns-4 c =
     let a = (c .before .before .before .before .before .before .before .before .before .before .before .before .before .args) in
-    definition-read (a .pack .now) (a .from .at) (omega arith) (rw (c .before .before .before .before .before .before .before .before .before .invoke .given .1) at (c .before .before .before .before .before .before .before .before .before .before .before .field .ensures)) (rw (c .before .before .before .before .before .group .given .1) at (c .before .before .before .before .before .before .before .field2 .ensures)) (rw (c .before .length .given .1) at (c .before .before .before .field3 .ensures))
+    definition-read (a .pack .now) (a .from .at) (omega arith)
+    (rw (c .before .before .before .before .before .before .before .before .before .invoke .given .1) at
+    (c .before .before .before .before .before .before .before .before .before .before .before .field .ensures))
+    (rw (c .before .before .before .before .before .group .given .1) at (c .before .before .before .before .before .before .before .field2 .ensures))
+    (rw (c .before .length .given .1) at (c .before .before .before .field3 .ensures))
 
 pub read-definition-spec : {M : Type 1} → statement M
 read-definition-spec =

@@ -30,7 +30,10 @@ same-length : tie.Need-same-length Inv-loop μ-loop
 same-length c = (c .before .before .before .before .before .loop .inv .long)
 
 returns : tie.Need-returns Inv-loop μ-loop
-returns c = broken-off definitionBytes definitionSize wide-definition readDefinition definitionWidth _ _ _ _ _ (omega arith) _ _ _ (c .before .before .before .before .before .loop .inv) (c .before .before .before .before .loop-test .taken) _ _ (rw (c .before .r .given .1) at (c .before .before .before .read-definition .ensures))
+returns c =
+    broken-off definitionBytes definitionSize wide-definition readDefinition definitionWidth _ _ _ _ _ (omega arith) _ _ _
+    (c .before .before .before .before .before .loop .inv) (c .before .before .before .before .loop-test .taken) _ _
+    (rw (c .before .r .given .1) at (c .before .before .before .read-definition .ensures))
 
 enum-known-d : tie.Need-enum-known-d Inv-loop μ-loop
 enum-known-d c = search needs
@@ -47,13 +50,17 @@ loop-less c = omega arith
 loop-again : tie.Need-loop-again Inv-loop μ-loop
 loop-again c =
     let d = rw (c .before .before .before .before .before .d .given .1) at (c .before .before .before .before .before .before .before .read-definition .ensures) in
-    one-more definitionBytes definitionSize wide-definition readDefinition definitionWidth _ _ _ _ _ (omega arith) _ _ _ (c .before .before .before .before .before .before .before .before .before .loop .inv) (c .before .before .before .before .before .before .before .before .loop-test .taken) _ _ _ _ (d .reads) (d .on) (omega arith) (omega arith) (c .before .before .put-definition .ensures)
+    one-more definitionBytes definitionSize wide-definition readDefinition definitionWidth _ _ _ _ _ (omega arith) _ _ _
+    (c .before .before .before .before .before .before .before .before .before .loop .inv)
+    (c .before .before .before .before .before .before .before .before .loop-test .taken) _ _ _ _ (d .reads) (d .on) (omega arith) (omega arith)
+    (c .before .before .put-definition .ensures)
 
 same-length-2 : tie.Need-same-length-2 Inv-loop μ-loop
 same-length-2 c = (c .before .loop .inv .long)
 
 returns-2 : tie.Need-returns-2 Inv-loop μ-loop
-returns-2 c = all-read definitionBytes definitionSize wide-definition readDefinition definitionWidth _ _ _ _ _ (omega arith) _ _ _ (c .before .loop .inv) (c .loop-test .left)
+returns-2 c =
+    all-read definitionBytes definitionSize wide-definition readDefinition definitionWidth _ _ _ _ _ (omega arith) _ _ _ (c .before .loop .inv) (c .loop-test .left)
 
 pub read-definitions-spec : {M : Type 1} → statement M
 read-definitions-spec =

@@ -17,12 +17,14 @@ enum-known-version c = search needs
 returns : tie.Need-returns
 returns c =
     let a = (c .before .before .before .before .before .before .args) in
-    version-other (a .pack .now) (a .from .at) (omega arith) (rw (c .before .before .version .given .1) at (c .before .before .before .before .field .ensures)) (c .if1 .taken)
+    version-other (a .pack .now) (a .from .at) (omega arith) (rw (c .before .before .version .given .1) at (c .before .before .before .before .field .ensures))
+    (λ e. omega arith)
 
 read-counts-requires : tie.Need-read-counts-requires
 read-counts-requires c κs =
     let a = (c .before .before .before .before .before .before .args) in
-    let o = version-on (a .pack .now) (a .from .at) (omega arith) (rw (c .before .before .version .given .1) at (c .before .before .before .before .field .ensures)) (c .if1 .left) in
+    let o = version-on (a .pack .now) (a .from .at) (omega arith) (rw (c .before .before .version .given .1) at (c .before .before .before .before .field .ensures))
+    (omega arith) in
     omega arith
 
 returns-2 : tie.Need-returns-2
@@ -33,7 +35,9 @@ returns-2 c =
 returns-3 : tie.Need-returns-3
 returns-3 c =
     let a = (c .before .before .before .before .before .before .before .args) in
-    version-read (a .pack .now) (a .from .at) (omega arith) (rw (c .before .before .before .version .given .1) at (c .before .before .before .before .before .field .ensures)) (c .before .if1 .left) (c .read-counts .result) (c .read-counts .ensures)
+    version-read (a .pack .now) (a .from .at) (omega arith)
+    (rw (c .before .before .before .version .given .1) at (c .before .before .before .before .before .field .ensures)) (omega arith) (c .read-counts .result)
+    (c .read-counts .ensures)
 
 pub read-head-spec : {M : Type 1} → statement M
 read-head-spec =

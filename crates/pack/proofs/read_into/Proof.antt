@@ -10,7 +10,10 @@ zero-all-requires : tie.Need-zero-all-requires
 zero-all-requires c κs = search needs
 
 fill-tables-requires : tie.Need-fill-tables-requires
-fill-tables-requires c κs = (c .before .before .before .before .before .before .before .before .before .before .before .before .before .before .before .zero-all .ensures) ∙ cleared-sized _ (c .before .before .before .before .before .before .before .before .before .before .before .before .before .before .before .before .before .before .before .before .before .before .before .before .before .before .before .pre)
+fill-tables-requires c κs =
+    (c .before .before .before .before .before .before .before .before .before .before .before .before .before .before .before .zero-all .ensures) ∙ cleared-sized _
+    (c .before .before .before .before .before .before .before .before .before .before .before .before .before .before .before .before .before .before .before
+    .before .before .before .before .before .before .before .before .pre)
 
 enum-known-counts : tie.Need-enum-known-counts
 enum-known-counts c = search needs
@@ -37,26 +40,37 @@ same-length-5 : tie.Need-same-length-5
 same-length-5 c = search needs
 
 returns : tie.Need-returns
-returns c = (rw (c .before .counts .given .1) at (c .before .before .before .before .before .before .before .before .before .before .before .before .before .fill-tables .ensures))
+returns c =
+    (rw (c .before .counts .given .1) at
+    (c .before .before .before .before .before .before .before .before .before .before .before .before .before .fill-tables .ensures))
 
 same-length-6 : tie.Need-same-length-6
 same-length-6 c =
-    let a = (c .before .before .before .before .before .before .before .before .before .before .before .before .before .before .before .before .before .before .before .before .before .before .before .before .before .before .before .before .before .before .before .before .before .before .before .before .before .before .before .before .before .before .before .before .before .zero-all .kept) in
-    let b = (c .before .before .before .before .before .before .before .before .before .before .before .before .before .before .before .before .before .before .before .before .before .before .before .before .before .before .before .before .before .fill-tables .kept) in
+    let a = (c .before .before .before .before .before .before .before .before .before .before .before .before .before .before .before .before .before .before
+    .before .before .before .before .before .before .before .before .before .before .before .before .before .before .before .before .before .before .before .before
+    .before .before .before .before .before .before .before .zero-all .kept) in
+    let b = (c .before .before .before .before .before .before .before .before .before .before .before .before .before .before .before .before .before .before
+    .before .before .before .before .before .before .before .before .before .before .before .fill-tables .kept) in
     let d = (c .before .before .before .before .before .before .before .before .before .before .zero-all2 .kept) in
     omega arith
 
 same-length-7 : tie.Need-same-length-7
 same-length-7 c =
-    let a = (c .before .before .before .before .before .before .before .before .before .before .before .before .before .before .before .before .before .before .before .before .before .before .before .before .before .before .before .before .before .before .before .before .before .before .before .before .before .before .before .before .before .before .before .before .before .zero-all .kept) in
-    let b = (c .before .before .before .before .before .before .before .before .before .before .before .before .before .before .before .before .before .before .before .before .before .before .before .before .before .before .before .before .before .fill-tables .kept) in
+    let a = (c .before .before .before .before .before .before .before .before .before .before .before .before .before .before .before .before .before .before
+    .before .before .before .before .before .before .before .before .before .before .before .before .before .before .before .before .before .before .before .before
+    .before .before .before .before .before .before .before .zero-all .kept) in
+    let b = (c .before .before .before .before .before .before .before .before .before .before .before .before .before .before .before .before .before .before
+    .before .before .before .before .before .before .before .before .before .before .before .fill-tables .kept) in
     let d = (c .before .before .before .before .before .before .before .before .before .before .zero-all2 .kept) in
     omega arith
 
 same-length-8 : tie.Need-same-length-8
 same-length-8 c =
-    let a = (c .before .before .before .before .before .before .before .before .before .before .before .before .before .before .before .before .before .before .before .before .before .before .before .before .before .before .before .before .before .before .before .before .before .before .before .before .before .before .before .before .before .before .before .before .before .zero-all .kept) in
-    let b = (c .before .before .before .before .before .before .before .before .before .before .before .before .before .before .before .before .before .before .before .before .before .before .before .before .before .before .before .before .before .fill-tables .kept) in
+    let a = (c .before .before .before .before .before .before .before .before .before .before .before .before .before .before .before .before .before .before
+    .before .before .before .before .before .before .before .before .before .before .before .before .before .before .before .before .before .before .before .before
+    .before .before .before .before .before .before .before .zero-all .kept) in
+    let b = (c .before .before .before .before .before .before .before .before .before .before .before .before .before .before .before .before .before .before
+    .before .before .before .before .before .before .before .before .before .before .before .fill-tables .kept) in
     let d = (c .before .before .before .before .before .before .before .before .before .before .zero-all2 .kept) in
     omega arith
 
@@ -68,11 +82,19 @@ same-length-10 c = search needs
 
 returns-2 : tie.Need-returns-2
 returns-2 c =
-    let s = (c .before .before .before .before .before .before .before .before .before .before .before .before .before .before .before .before .before .before .before .before .before .before .before .before .before .before .before .before .before .before .before .before .before .before .before .before .before .before .before .before .before .before .before .before .before .before .before .before .before .before .before .before .before .before .before .before .before .pre) in
-    let a = (c .before .before .before .before .before .before .before .before .before .before .before .before .before .before .before .before .before .before .before .before .before .before .before .before .before .before .before .before .before .before .before .before .before .before .before .before .before .before .before .before .before .before .before .before .before .zero-all .kept) in
-    let b = (c .before .before .before .before .before .before .before .before .before .before .before .before .before .before .before .before .before .before .before .before .before .before .before .before .before .before .before .before .before .fill-tables .kept) in
+    let s = (c .before .before .before .before .before .before .before .before .before .before .before .before .before .before .before .before .before .before
+    .before .before .before .before .before .before .before .before .before .before .before .before .before .before .before .before .before .before .before .before
+    .before .before .before .before .before .before .before .before .before .before .before .before .before .before .before .before .before .before .before .pre) in
+    let a = (c .before .before .before .before .before .before .before .before .before .before .before .before .before .before .before .before .before .before
+    .before .before .before .before .before .before .before .before .before .before .before .before .before .before .before .before .before .before .before .before
+    .before .before .before .before .before .before .before .zero-all .kept) in
+    let b = (c .before .before .before .before .before .before .before .before .before .before .before .before .before .before .before .before .before .before
+    .before .before .before .before .before .before .before .before .before .before .before .fill-tables .kept) in
     record {
-      is = (rw (c .before .before .before .before .before .before .before .before .before .before .before .before .before .before .before .before .before .refusal .given .1) at (c .before .before .before .before .before .before .before .before .before .before .before .before .before .before .before .before .before .before .before .before .before .before .before .before .before .before .before .before .before .fill-tables .ensures));
+      is = (rw (c .before .before .before .before .before .before .before .before .before .before .before .before .before .before .before .before .before .refusal
+          .given .1) at
+          (c .before .before .before .before .before .before .before .before .before .before .before .before .before .before .before .before .before .before .before
+          .before .before .before .before .before .before .before .before .before .before .fill-tables .ensures));
       tables = (c .before .before .before .before .before .before .before .before .before .before .zero-all2 .ensures)
           ∙ cleared-sized _ (record { names = omega arith; categories = omega arith; definitions = omega arith; ranges = omega arith; references = omega arith });
     }

@@ -20,7 +20,8 @@ cast-len c = search needs
 returns : tie.Need-returns
 returns c =
     let a = (c .before .before .before .before .before .before .before .before .before .args) in
-    λ ns z. no-length (a .pack .now) (a .from .at) (a .used) (omega arith) (rw (c .before .before .v .given .1) at (c .before .before .before .before .field .ensures)) (c .if1 .taken) ns
+    λ ns z. no-length (a .pack .now) (a .from .at) (a .used) (omega arith)
+    (rw (c .before .before .v .given .1) at (c .before .before .before .before .field .ensures)) (c .if1 .taken) ns
 
 sub-if2 : tie.Need-sub-if2
 sub-if2 c = search needs
@@ -28,13 +29,21 @@ sub-if2 c = search needs
 returns-2 : tie.Need-returns-2
 returns-2 c =
     let a = (c .before .before .before .before .before .before .before .before .before .before .args) in
-    λ ns z. over-length (a .pack .now) (a .from .at) (a .used) (omega arith) (rw (c .before .before .before .v .given .1) at (c .before .before .before .before .before .field .ensures)) (omega arith) ns
+    λ ns z. over-length (a .pack .now) (a .from .at) (a .used) (omega arith)
+    (rw (c .before .before .before .v .given .1) at (c .before .before .before .before .before .field .ensures)) (omega arith) ns
 
 take-name-requires : tie.Need-take-name-requires
 take-name-requires c κs =
     let a = (c .before .before .before .before .before .before .before .before .before .before .before .before .before .args) in
-    let o = length-on (a .pack .now) (a .from .at) (a .used) (omega arith) (rw (c .before .before .before .before .before .before .v .given .1) at (c .before .before .before .before .before .before .before .before .field .ensures)) (omega arith) (omega arith) in
-    (omega arith, ((omega arith, (omega arith, omega arith)), (c .before .before .before .before .before .before .before .before .before .before .before .before .before .pre .1 .1)))
+    let o = length-on (a .pack .now) (a .from .at) (a .used) (omega arith)
+    (rw (c .before .before .before .before .before .before .v .given .1) at (c .before .before .before .before .before .before .before .before .field .ensures))
+    (omega arith) (omega arith) in (
+      omega arith,
+      (
+        (omega arith, (omega arith, omega arith)),
+        (c .before .before .before .before .before .before .before .before .before .before .before .before .before .pre .1 .1),
+      ),
+    )
 
 returns-3 : tie.Need-returns-3
 returns-3 c =
@@ -52,8 +61,13 @@ same-length-3 c = search needs
 
 returns-4 : tie.Need-returns-4
 returns-4 c =
-    let a = (c .before .before .before .before .before .before .before .before .before .before .before .before .before .before .before .before .before .before .before .before .args) in
-    λ ns z. name-follows (a .pack .now) (a .from .at) (a .used) (omega arith) (rw (c .before .before .before .before .before .before .before .before .before .before .before .before .before .v .given .1) at (c .before .before .before .before .before .before .before .before .before .before .before .before .before .before .before .field .ensures)) (omega arith) (omega arith) ns _ (a .i) (c .before .before .before .before .before .before .take-name .result) ((c .before .before .before .before .before .before .take-name .ensures) ns z)
+    let a = (c .before .before .before .before .before .before .before .before .before .before .before .before .before .before .before .before .before .before
+    .before .before .args) in
+    λ ns z. name-follows (a .pack .now) (a .from .at) (a .used) (omega arith)
+    (rw (c .before .before .before .before .before .before .before .before .before .before .before .before .before .v .given .1) at
+    (c .before .before .before .before .before .before .before .before .before .before .before .before .before .before .before .field .ensures)) (omega arith)
+    (omega arith) ns _ (a .i) (c .before .before .before .before .before .before .take-name .result)
+    ((c .before .before .before .before .before .before .take-name .ensures) ns z)
 
 pub read-name-spec : {M : Type 1} → statement M
 read-name-spec =

@@ -35,13 +35,15 @@ enum-known-r c = search needs
 
 same-length : tie.Need-same-length Inv-loop μ-loop
 same-length c =
-    let x = names-long (c .before .before .before .before .before .before .before .before .before .before .before .before .before .before .before .before .before .pre .1 .1) in
+    let x = names-long
+    (c .before .before .before .before .before .before .before .before .before .before .before .before .before .before .before .before .before .pre .1 .1) in
     let y = names-long (c .before .before .before .before .before .before .before .before .before .before .before .before .before .loop .inv .held .holds) in
     omega (arith, (c .before .before .before .before .before .before .before .before .read-name .kept))
 
 same-length-2 : tie.Need-same-length-2 Inv-loop μ-loop
 same-length-2 c =
-    let x = categories-long (c .before .before .before .before .before .before .before .before .before .before .before .before .before .before .before .before .before .pre .1 .1) in
+    let x = categories-long
+    (c .before .before .before .before .before .before .before .before .before .before .before .before .before .before .before .before .before .pre .1 .1) in
     let y = categories-long (c .before .before .before .before .before .before .before .before .before .before .before .before .before .loop .inv .held .holds) in
     omega (arith, (c .before .before .before .before .before .before .before .before .read-name .kept))
 
@@ -49,7 +51,9 @@ returns : tie.Need-returns Inv-loop μ-loop
 returns c =
     let a = (c .before .before .before .before .before .before .before .before .before .before .before .before .before .before .before .before .before .args) in
     let z = (c .before .before .before .before .before .before .before .before .before .before .before .before .before .loop .inv) in
-    name-off (a .pack .now) (a .from .at) (a .n) _ _ _ _ z (c .before .before .before .before .before .before .before .before .before .before .before .before .loop-test .taken) ((rw (c .before .r .given .1) at (c .before .before .before .before .before .before .before .before .read-name .ensures)) (z .all) (z .held))
+    name-off (a .pack .now) (a .from .at) (a .n) _ _ _ _ z
+    (c .before .before .before .before .before .before .before .before .before .before .before .before .loop-test .taken)
+    ((rw (c .before .r .given .1) at (c .before .before .before .before .before .before .before .before .read-name .ensures)) (z .all) (z .held))
 
 enum-known-len : tie.Need-enum-known-len Inv-loop μ-loop
 enum-known-len c = search needs
@@ -71,7 +75,9 @@ loop-again : tie.Need-loop-again Inv-loop μ-loop
 loop-again c =
     let a = (c .before .before .before .before .before .before .before .before .before .before .before .before .before .before .before .before .before .args) in
     let z = (c .before .before .before .before .before .before .before .before .before .before .before .before .before .loop .inv) in
-    name-more (a .pack .now) (a .from .at) (a .n) _ _ _ _ z (c .before .before .before .before .before .before .before .before .before .before .before .before .loop-test .taken) _ _ _ ((rw (c .before .len .given .1) at (c .before .before .before .before .before .before .before .before .read-name .ensures)) (z .all) (z .held))
+    name-more (a .pack .now) (a .from .at) (a .n) _ _ _ _ z
+    (c .before .before .before .before .before .before .before .before .before .before .before .before .loop-test .taken) _ _ _
+    ((rw (c .before .len .given .1) at (c .before .before .before .before .before .before .before .before .read-name .ensures)) (z .all) (z .held))
 
 same-length-3 : tie.Need-same-length-3 Inv-loop μ-loop
 same-length-3 c =

@@ -33,7 +33,8 @@ cast-put-range c = search needs
 
 cast-put-range-2 : tie.Need-cast-put-range-2
 cast-put-range-2 c =
-    let b = (rw (c .before .before .before .before .before .before .before .before .before .before .b .given .1) at (c .before .before .before .before .before .before .before .before .before .before .before .before .read-bounds .ensures)) in
+    let b = (rw (c .before .before .before .before .before .before .before .before .before .before .b .given .1) at
+    (c .before .before .before .before .before .before .before .before .before .before .before .before .read-bounds .ensures)) in
     let f = b .fits in
     omega (arith, (c .before .before .before .before .before .before .before .before .before .before .before .before .before .before .before .before .pre))
 
@@ -47,7 +48,11 @@ same-length : tie.Need-same-length
 same-length c = search needs
 
 returns-2 : tie.Need-returns-2
-returns-2 c = range-broken (rw (c .before .before .before .before .before .before .before .before .b .given .1) at (c .before .before .before .before .before .before .before .before .before .before .read-bounds .ensures)) (rw (c .before .r2 .given .1) at (c .before .before .before .before .before .read-references .ensures))
+returns-2 c =
+    range-broken
+    (rw (c .before .before .before .before .before .before .before .before .b .given .1) at
+    (c .before .before .before .before .before .before .before .before .before .before .read-bounds .ensures))
+    (rw (c .before .r2 .given .1) at (c .before .before .before .before .before .read-references .ensures))
 
 same-length-2 : tie.Need-same-length-2
 same-length-2 c = search needs
@@ -56,7 +61,11 @@ same-length-3 : tie.Need-same-length-3
 same-length-3 c = search needs
 
 returns-3 : tie.Need-returns-3
-returns-3 c = range-in (rw (c .before .before .before .before .before .before .before .before .before .before .before .before .before .b .given .1) at (c .before .before .before .before .before .before .before .before .before .before .before .before .before .before .before .read-bounds .ensures)) _ _ _ _ (rw (c .before .before .before .before .before .before .next .given .1) at (c .before .before .before .before .before .before .before .before .before .before .read-references .ensures)) (c .before .before .put-range .ensures)
+returns-3 c =
+    range-in (rw (c .before .before .before .before .before .before .before .before .before .before .before .before .before .b .given .1) at
+    (c .before .before .before .before .before .before .before .before .before .before .before .before .before .before .before .read-bounds .ensures)) _ _ _ _
+    (rw (c .before .before .before .before .before .before .next .given .1) at
+    (c .before .before .before .before .before .before .before .before .before .before .read-references .ensures)) (c .before .before .put-range .ensures)
 
 pub read-range-spec : {M : Type 1} → statement M
 read-range-spec =

@@ -31,15 +31,30 @@ enum-known-r : tie.Need-enum-known-r Inv-loop μ-loop
 enum-known-r c = search needs
 
 same-length : tie.Need-same-length Inv-loop μ-loop
-same-length c = let z = zero-ranges (c .before .before .before .before .before .before .before .before .before .before .before .before .before .before .before .pre .1 .1) in omega (arith, (c .before .before .before .before .before .before .before .before .before .before .before .loop .inv .ranges-long), (c .before .before .before .before .before .before .before .read-range .kept))
+same-length c =
+    let z = zero-ranges (c .before .before .before .before .before .before .before .before .before .before .before .before .before .before .before .pre .1 .1) in
+    omega (
+      arith,
+      (c .before .before .before .before .before .before .before .before .before .before .before .loop .inv .ranges-long),
+      (c .before .before .before .before .before .before .before .read-range .kept),
+    )
 
 same-length-2 : tie.Need-same-length-2 Inv-loop μ-loop
-same-length-2 c = let z = zero-references (c .before .before .before .before .before .before .before .before .before .before .before .before .before .before .before .pre .1 .1) in omega (arith, (c .before .before .before .before .before .before .before .before .before .before .before .loop .inv .references-long), (c .before .before .before .before .before .before .before .read-range .kept))
+same-length-2 c =
+    let z = zero-references
+    (c .before .before .before .before .before .before .before .before .before .before .before .before .before .before .before .pre .1 .1) in omega (
+      arith,
+      (c .before .before .before .before .before .before .before .before .before .before .before .loop .inv .references-long),
+      (c .before .before .before .before .before .before .before .read-range .kept),
+    )
 
 returns : tie.Need-returns Inv-loop μ-loop
 returns c =
     let a = (c .before .before .before .before .before .before .before .before .before .before .before .before .before .before .before .args) in
-    range-off (a .pack .now) (a .known) (a .total) (a .from .at) (a .n) _ _ _ _ (c .before .before .before .before .before .before .before .before .before .before .before .loop .inv) (c .before .before .before .before .before .before .before .before .before .before .loop-test .taken) (rw (c .before .r .given .1) at (c .before .before .before .before .before .before .before .read-range .ensures))
+    range-off (a .pack .now) (a .known) (a .total) (a .from .at) (a .n) _ _ _ _
+    (c .before .before .before .before .before .before .before .before .before .before .before .loop .inv)
+    (c .before .before .before .before .before .before .before .before .before .before .loop-test .taken)
+    (rw (c .before .r .given .1) at (c .before .before .before .before .before .before .before .read-range .ensures))
 
 enum-known-count : tie.Need-enum-known-count Inv-loop μ-loop
 enum-known-count c = search needs
@@ -59,7 +74,10 @@ loop-less c = omega arith
 loop-again : tie.Need-loop-again Inv-loop μ-loop
 loop-again c =
     let a = (c .before .before .before .before .before .before .before .before .before .before .before .before .before .before .before .args) in
-    range-more (a .pack .now) (a .known) (a .total) (a .from .at) (a .n) _ _ _ _ (c .before .before .before .before .before .before .before .before .before .before .before .loop .inv) (c .before .before .before .before .before .before .before .before .before .before .loop-test .taken) (omega arith) (omega arith) _ _ _ (rw (c .before .count .given .1) at (c .before .before .before .before .before .before .before .read-range .ensures))
+    range-more (a .pack .now) (a .known) (a .total) (a .from .at) (a .n) _ _ _ _
+    (c .before .before .before .before .before .before .before .before .before .before .before .loop .inv)
+    (c .before .before .before .before .before .before .before .before .before .before .loop-test .taken) (omega arith) (omega arith) _ _ _
+    (rw (c .before .count .given .1) at (c .before .before .before .before .before .before .before .read-range .ensures))
 
 same-length-3 : tie.Need-same-length-3 Inv-loop μ-loop
 same-length-3 c = let z = zero-ranges (c .before .before .before .before .before .pre .1 .1) in omega (arith, (c .before .loop .inv .ranges-long))

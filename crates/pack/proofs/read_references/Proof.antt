@@ -38,7 +38,9 @@ same-length c = (c .before .before .before .before .before .loop .inv .long)
 returns : tie.Need-returns Inv-loop μ-loop
 returns c =
     let a = (c .before .before .before .before .before .before .before .before .args) in
-    broken-off (le referenceSize) referenceSize wide-number (number numberWidth (λ x. ltb x (a .known))) numberWidth _ _ _ _ _ (omega arith) _ _ _ (c .before .before .before .before .before .loop .inv) (c .before .before .before .before .loop-test .taken) _ _ (sym (rw (c .before .r .given .1) at (c .before .before .before .known-field .ensures)))
+    broken-off (le referenceSize) referenceSize wide-number (number numberWidth (λ x. ltb x (a .known))) numberWidth _ _ _ _ _ (omega arith) _ _ _
+    (c .before .before .before .before .before .loop .inv) (c .before .before .before .before .loop-test .taken) _ _
+    (sym (rw (c .before .r .given .1) at (c .before .before .before .known-field .ensures)))
 
 enum-known-v : tie.Need-enum-known-v Inv-loop μ-loop
 enum-known-v c = search needs
@@ -67,8 +69,13 @@ loop-less c = omega arith
 loop-again : tie.Need-loop-again Inv-loop μ-loop
 loop-again c =
     let a = (c .before .before .before .before .before .before .before .before .before .before .before .before .args) in
-    let v = known-read (a .pack .now) (a .known) _ (rw (c .before .before .before .before .before .v .given .1) at (c .before .before .before .before .before .before .before .known-field .ensures)) in
-    one-more (le referenceSize) referenceSize wide-number (number numberWidth (λ x. ltb x (a .known))) numberWidth _ _ _ _ _ (omega arith) _ _ _ (c .before .before .before .before .before .before .before .before .before .loop .inv) (c .before .before .before .before .before .before .before .before .loop-test .taken) _ _ _ _ (sym (rw (c .before .before .before .before .before .v .given .1) at (c .before .before .before .before .before .before .before .known-field .ensures))) (v .on) (omega arith) (omega arith) (c .before .before .put-u16 .ensures)
+    let v = known-read (a .pack .now) (a .known) _
+    (rw (c .before .before .before .before .before .v .given .1) at (c .before .before .before .before .before .before .before .known-field .ensures)) in
+    one-more (le referenceSize) referenceSize wide-number (number numberWidth (λ x. ltb x (a .known))) numberWidth _ _ _ _ _ (omega arith) _ _ _
+    (c .before .before .before .before .before .before .before .before .before .loop .inv)
+    (c .before .before .before .before .before .before .before .before .loop-test .taken) _ _ _ _
+    (sym (rw (c .before .before .before .before .before .v .given .1) at (c .before .before .before .before .before .before .before .known-field .ensures))) (v .on)
+    (omega arith) (omega arith) (c .before .before .put-u16 .ensures)
 
 same-length-2 : tie.Need-same-length-2 Inv-loop μ-loop
 same-length-2 c = (c .before .loop .inv .long)
@@ -76,7 +83,8 @@ same-length-2 c = (c .before .loop .inv .long)
 returns-2 : tie.Need-returns-2 Inv-loop μ-loop
 returns-2 c =
     let a = (c .before .before .before .before .args) in
-    all-read (le referenceSize) referenceSize wide-number (number numberWidth (λ x. ltb x (a .known))) numberWidth _ _ _ _ _ (omega arith) _ _ _ (c .before .loop .inv) (c .loop-test .left)
+    all-read (le referenceSize) referenceSize wide-number (number numberWidth (λ x. ltb x (a .known))) numberWidth _ _ _ _ _ (omega arith) _ _ _
+    (c .before .loop .inv) (c .loop-test .left)
 
 pub read-references-spec : {M : Type 1} → statement M
 read-references-spec =

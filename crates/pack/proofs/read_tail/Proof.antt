@@ -44,8 +44,14 @@ same-length-3 c = search needs
 
 returns : tie.Need-returns
 returns c =
-    let a = (c .before .before .before .before .before .before .before .before .before .before .before .before .before .before .before .before .before .before .before .before .before .before .before .args) in
-    total-broken (a .pack .now) (a .from .at) (a .head) _ _ _ (rw (c .before .before .before .before .before .before .before .before .before .before .before .before .before .behind .given .1) at (c .before .before .before .before .before .before .before .before .before .before .before .before .before .before .before .before .before .read-definitions .ensures)) _ _ _ (rw (c .before .before .before .used .given .1) at (c .before .before .before .before .before .before .before .before .before .read-ranges .ensures)) (c .if1 .taken)
+    let a = (c .before .before .before .before .before .before .before .before .before .before .before .before .before .before .before .before .before .before
+    .before .before .before .before .before .args) in
+    total-broken (a .pack .now) (a .from .at) (a .head) _ _ _
+    (rw (c .before .before .before .before .before .before .before .before .before .before .before .before .before .behind .given .1) at
+    (c .before .before .before .before .before .before .before .before .before .before .before .before .before .before .before .before .before .read-definitions
+    .ensures)) _ _ _
+    (rw (c .before .before .before .used .given .1) at (c .before .before .before .before .before .before .before .before .before .read-ranges .ensures))
+    (λ e. omega arith)
 
 same-length-4 : tie.Need-same-length-4
 same-length-4 c = search needs
@@ -66,8 +72,12 @@ same-length-7 c = search needs
 
 returns-3 : tie.Need-returns-3
 returns-3 c =
-    let a = (c .before .before .before .before .before .before .before .before .before .before .before .before .before .before .before .before .before .before .before .before .before .args) in
-    ranges-broke (a .pack .now) (a .from .at) (a .head) _ _ _ (rw (c .before .before .before .before .before .before .before .before .before .before .before .behind .given .1) at (c .before .before .before .before .before .before .before .before .before .before .before .before .before .before .before .read-definitions .ensures)) (rw (c .before .r2 .given .1) at (c .before .before .before .before .before .before .before .read-ranges .ensures))
+    let a = (c .before .before .before .before .before .before .before .before .before .before .before .before .before .before .before .before .before .before
+    .before .before .before .args) in
+    ranges-broke (a .pack .now) (a .from .at) (a .head) _ _ _
+    (rw (c .before .before .before .before .before .before .before .before .before .before .before .behind .given .1) at
+    (c .before .before .before .before .before .before .before .before .before .before .before .before .before .before .before .read-definitions .ensures))
+    (rw (c .before .r2 .given .1) at (c .before .before .before .before .before .before .before .read-ranges .ensures))
 
 same-length-8 : tie.Need-same-length-8
 same-length-8 c = search needs
@@ -80,9 +90,16 @@ same-length-10 c = search needs
 
 returns-4 : tie.Need-returns-4
 returns-4 c =
-    let a = (c .before .before .before .before .before .before .before .before .before .before .before .before .before .before .before .before .before .before .before .before .before .before .before .args) in
-    let q = (c .before .before .before .before .before .before .before .before .before .before .before .before .before .before .before .before .before .before .before .before .before .before .before .pre) in
-    tail-in (a .pack .now) (a .from .at) (a .head) _ _ _ (rw (c .before .before .before .before .before .before .before .before .before .before .before .before .before .behind .given .1) at (c .before .before .before .before .before .before .before .before .before .before .before .before .before .before .before .before .before .read-definitions .ensures)) _ _ _ (rw (c .before .before .before .used .given .1) at (c .before .before .before .before .before .before .before .before .before .read-ranges .ensures)) (c .if1 .left) (q .0) (q .1 .0 .lines-fit) (q .1 .1 .0)
+    let a = (c .before .before .before .before .before .before .before .before .before .before .before .before .before .before .before .before .before .before
+    .before .before .before .before .before .args) in
+    let q = (c .before .before .before .before .before .before .before .before .before .before .before .before .before .before .before .before .before .before
+    .before .before .before .before .before .pre) in
+    tail-in (a .pack .now) (a .from .at) (a .head) _ _ _
+    (rw (c .before .before .before .before .before .before .before .before .before .before .before .before .before .behind .given .1) at
+    (c .before .before .before .before .before .before .before .before .before .before .before .before .before .before .before .before .before .read-definitions
+    .ensures)) _ _ _
+    (rw (c .before .before .before .used .given .1) at (c .before .before .before .before .before .before .before .before .before .read-ranges .ensures))
+    (omega arith) (q .0) (q .1 .0 .lines-fit) (q .1 .1 .0)
 
 pub read-tail-spec : {M : Type 1} → statement M
 read-tail-spec =

@@ -28,11 +28,22 @@ place-name-requires c κs =
 
 name-kept-requires : tie.Need-name-kept-requires
 name-kept-requires c κs =
-    let a = (c .before .before .before .before .before .before .before .before .before .before .before .before .before .before .before .before .before .before .before .before .before .before .args) in
-    let q = (c .before .before .before .before .before .before .before .before .before .before .before .before .before .before .before .before .before .before .before .before .before .before .pre) in
-    now-naming (a .pack .now) (a .from .at) (a .len) (q .0) (q .1 .0 .1 .0) (record { names = a .names .now; categories = a .categories .now; marks = a .marks .now })
-    (record { names = (c .before .before .before .before .before .before .before .before .before .before .before .before .before .before .before .before .bytes .last .1 .1 .1 .0); categories = (c .before .before .before .before .before .before .before .place-name .last .1 .0); marks = (c .before .before .before .before .before .before .before .place-name .last .1 .1 .0) }) (a .i) (a .used) _ (q .1 .0 .0) (q .1 .0 .1 .1)
-    (rw (c .before .before .before .before .before .before .before .before .before .before .before .before .next .given .1) at (c .before .before .before .before .before .before .before .before .before .before .before .before .before .before .before .before .bytes .ensures)) (c .before .before .before .before .before .before .before .place-name .ensures .0) (c .before .before .before .before .before .before .before .place-name .ensures .1) (q .1 .1)
+    let a = (c .before .before .before .before .before .before .before .before .before .before .before .before .before .before .before .before .before .before
+    .before .before .before .before .args) in
+    let q = (c .before .before .before .before .before .before .before .before .before .before .before .before .before .before .before .before .before .before
+    .before .before .before .before .pre) in
+    now-naming (a .pack .now) (a .from .at) (a .len) (q .0) (q .1 .0 .1 .0)
+    (record { names = a .names .now; categories = a .categories .now; marks = a .marks .now })
+    (record {
+      names = (c .before .before .before .before .before .before .before .before .before .before .before .before .before .before .before .before .bytes
+          .last .1 .1 .1 .0);
+      categories = (c .before .before .before .before .before .before .before .place-name .last .1 .0);
+      marks = (c .before .before .before .before .before .before .before .place-name .last .1 .1 .0);
+    }) (a .i) (a .used) _ (q .1 .0 .0) (q .1 .0 .1 .1)
+    (rw (c .before .before .before .before .before .before .before .before .before .before .before .before .next .given .1) at
+    (c .before .before .before .before .before .before .before .before .before .before .before .before .before .before .before .before .bytes .ensures))
+    (c .before .before .before .before .before .before .before .place-name .ensures .0)
+    (c .before .before .before .before .before .before .before .place-name .ensures .1) (q .1 .1)
 
 same-length : tie.Need-same-length
 same-length c = search needs
@@ -45,11 +56,22 @@ same-length-3 c = search needs
 
 returns : tie.Need-returns
 returns c =
-    let a = (c .before .before .before .before .before .before .before .before .before .before .before .before .before .before .before .before .before .before .before .before .before .before .before .before .args) in
-    let q = (c .before .before .before .before .before .before .before .before .before .before .before .before .before .before .before .before .before .before .before .before .before .before .before .before .pre) in
-    λ ns z. name-broken (a .pack .now) (a .from .at) (a .len) (q .0) (q .1 .0 .1 .0) (record { names = a .names .now; categories = a .categories .now; marks = a .marks .now })
-    (record { names = (c .before .before .before .before .before .before .before .before .before .before .before .before .before .before .before .before .before .before .bytes .last .1 .1 .1 .0); categories = (c .before .before .before .before .before .before .before .before .before .place-name .last .1 .0); marks = (c .before .before .before .before .before .before .before .before .before .place-name .last .1 .1 .0) }) (a .i) (a .used) _ (q .1 .0 .0) (q .1 .0 .1 .1)
-    (rw (c .before .before .before .before .before .before .before .before .before .before .before .before .before .before .next .given .1) at (c .before .before .before .before .before .before .before .before .before .before .before .before .before .before .before .before .before .before .bytes .ensures)) (c .before .before .before .before .before .before .before .before .before .place-name .ensures .0) (c .before .before .before .before .before .before .before .before .before .place-name .ensures .1)
+    let a = (c .before .before .before .before .before .before .before .before .before .before .before .before .before .before .before .before .before .before
+    .before .before .before .before .before .before .args) in
+    let q = (c .before .before .before .before .before .before .before .before .before .before .before .before .before .before .before .before .before .before
+    .before .before .before .before .before .before .pre) in
+    λ ns z. name-broken (a .pack .now) (a .from .at) (a .len) (q .0) (q .1 .0 .1 .0)
+    (record { names = a .names .now; categories = a .categories .now; marks = a .marks .now })
+    (record {
+      names = (c .before .before .before .before .before .before .before .before .before .before .before .before .before .before .before .before .before
+          .before .bytes .last .1 .1 .1 .0);
+      categories = (c .before .before .before .before .before .before .before .before .before .place-name .last .1 .0);
+      marks = (c .before .before .before .before .before .before .before .before .before .place-name .last .1 .1 .0);
+    }) (a .i) (a .used) _ (q .1 .0 .0) (q .1 .0 .1 .1)
+    (rw (c .before .before .before .before .before .before .before .before .before .before .before .before .before .before .next .given .1) at
+    (c .before .before .before .before .before .before .before .before .before .before .before .before .before .before .before .before .before .before .bytes
+    .ensures)) (c .before .before .before .before .before .before .before .before .before .place-name .ensures .0)
+    (c .before .before .before .before .before .before .before .before .before .place-name .ensures .1)
     _ (c .before .name-kept .ensures) ns z (c .if1 .taken)
 
 same-length-4 : tie.Need-same-length-4
@@ -58,7 +80,8 @@ same-length-4 c = search needs
 returns-2 : tie.Need-returns-2
 returns-2 c =
     let a = (c .before .before .before .before .before .before .before .before .before .before .before .args) in
-    λ ns z. bytes-cut (a .pack .now) (a .from .at) (a .len) (omega arith) (omega arith) (nameRule ns) ((rw (c .before .r .given .1) at (c .before .before .before .before .before .bytes .ensures)) .is)
+    λ ns z. bytes-cut (a .pack .now) (a .from .at) (a .len) (omega arith) (omega arith) (nameRule ns)
+    ((rw (c .before .r .given .1) at (c .before .before .before .before .before .bytes .ensures)) .is)
 
 same-length-5 : tie.Need-same-length-5
 same-length-5 c = search needs
@@ -71,11 +94,22 @@ same-length-7 c = search needs
 
 returns-3 : tie.Need-returns-3
 returns-3 c =
-    let a = (c .before .before .before .before .before .before .before .before .before .before .before .before .before .before .before .before .before .before .before .before .before .before .before .before .args) in
-    let q = (c .before .before .before .before .before .before .before .before .before .before .before .before .before .before .before .before .before .before .before .before .before .before .before .before .pre) in
-    λ ns z. name-in (a .pack .now) (a .from .at) (a .len) (q .0) (q .1 .0 .1 .0) (record { names = a .names .now; categories = a .categories .now; marks = a .marks .now })
-    (record { names = (c .before .before .before .before .before .before .before .before .before .before .before .before .before .before .before .before .before .before .bytes .last .1 .1 .1 .0); categories = (c .before .before .before .before .before .before .before .before .before .place-name .last .1 .0); marks = (c .before .before .before .before .before .before .before .before .before .place-name .last .1 .1 .0) }) (a .i) (a .used) _ (q .1 .0 .0) (q .1 .0 .1 .1)
-    (rw (c .before .before .before .before .before .before .before .before .before .before .before .before .before .before .next .given .1) at (c .before .before .before .before .before .before .before .before .before .before .before .before .before .before .before .before .before .before .bytes .ensures)) (c .before .before .before .before .before .before .before .before .before .place-name .ensures .0) (c .before .before .before .before .before .before .before .before .before .place-name .ensures .1)
+    let a = (c .before .before .before .before .before .before .before .before .before .before .before .before .before .before .before .before .before .before
+    .before .before .before .before .before .before .args) in
+    let q = (c .before .before .before .before .before .before .before .before .before .before .before .before .before .before .before .before .before .before
+    .before .before .before .before .before .before .pre) in
+    λ ns z. name-in (a .pack .now) (a .from .at) (a .len) (q .0) (q .1 .0 .1 .0)
+    (record { names = a .names .now; categories = a .categories .now; marks = a .marks .now })
+    (record {
+      names = (c .before .before .before .before .before .before .before .before .before .before .before .before .before .before .before .before .before
+          .before .bytes .last .1 .1 .1 .0);
+      categories = (c .before .before .before .before .before .before .before .before .before .place-name .last .1 .0);
+      marks = (c .before .before .before .before .before .before .before .before .before .place-name .last .1 .1 .0);
+    }) (a .i) (a .used) _ (q .1 .0 .0) (q .1 .0 .1 .1)
+    (rw (c .before .before .before .before .before .before .before .before .before .before .before .before .before .before .next .given .1) at
+    (c .before .before .before .before .before .before .before .before .before .before .before .before .before .before .before .before .before .before .bytes
+    .ensures)) (c .before .before .before .before .before .before .before .before .before .place-name .ensures .0)
+    (c .before .before .before .before .before .before .before .before .before .place-name .ensures .1)
     _ (c .before .name-kept .ensures) ns z (c .if1 .left)
 
 pub take-name-spec : {M : Type 1} → statement M

@@ -29,7 +29,9 @@ add-if4 c =
 returns-3 : tie.Need-returns-3
 returns-3 c =
     let a = (c .before .before .before .before .before .before .args) in
-    run-unput _ _ _ (omega arith) (bytes-left (a .pack .now) (a .self .at) (a .n) (c .before .before .has-bits .result) (c .before .before .has-bits .ensures) (c .before .if2 .left)) _ _ (omega arith)
+    run-unput _ _ _ (omega arith)
+    (bytes-left (a .pack .now) (a .self .at) (a .n) (c .before .before .has-bits .result) (c .before .before .has-bits .ensures) (c .before .if2 .left)) _ _
+    (omega arith)
 
 sub-if4 : tie.Need-sub-if4
 sub-if4 c = search needs
@@ -37,12 +39,15 @@ sub-if4 c = search needs
 returns-4 : tie.Need-returns-4
 returns-4 c =
     let a = (c .before .before .before .before .before .before .before .args) in
-    run-unput _ _ _ (omega arith) (bytes-left (a .pack .now) (a .self .at) (a .n) (c .before .before .before .has-bits .result) (c .before .before .before .has-bits .ensures) (c .before .before .if2 .left)) _ _ (omega arith)
+    run-unput _ _ _ (omega arith)
+    (bytes-left (a .pack .now) (a .self .at) (a .n) (c .before .before .before .has-bits .result) (c .before .before .before .has-bits .ensures)
+    (c .before .before .if2 .left)) _ _ (omega arith)
 
 copy-bytes-requires : tie.Need-copy-bytes-requires
 copy-bytes-requires c κs =
     let a = (c .before .before .before .before .before .before .before .before .args) in
-    let h = bytes-left (a .pack .now) (a .self .at) (a .n) (c .before .before .before .before .has-bits .result) (c .before .before .before .before .has-bits .ensures) (c .before .before .before .if2 .left) in search needs
+    let h = bytes-left (a .pack .now) (a .self .at) (a .n) (c .before .before .before .before .has-bits .result)
+    (c .before .before .before .before .has-bits .ensures) (c .before .before .before .if2 .left) in search needs
 
 same-length : tie.Need-same-length
 same-length c = search needs
@@ -50,7 +55,10 @@ same-length c = search needs
 returns-5 : tie.Need-returns-5
 returns-5 c =
     let a = (c .before .before .before .before .before .before .before .before .before .before .before .args) in
-    run-there _ _ _ (omega arith) (bytes-left (a .pack .now) (a .self .at) (a .n) (c .before .before .before .before .before .before .before .has-bits .result) (c .before .before .before .before .before .before .before .has-bits .ensures) (c .before .before .before .before .before .before .if2 .left)) _ _ _ (c .before .before .copy-bytes .ensures)
+    run-there _ _ _ (omega arith)
+    (bytes-left (a .pack .now) (a .self .at) (a .n) (c .before .before .before .before .before .before .before .has-bits .result)
+    (c .before .before .before .before .before .before .before .has-bits .ensures) (c .before .before .before .before .before .before .if2 .left)) _ _ _
+    (c .before .before .copy-bytes .ensures)
 
 pub bytes-spec : {M : Type 1} → statement M
 bytes-spec =

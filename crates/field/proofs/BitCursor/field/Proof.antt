@@ -17,7 +17,8 @@ has-bits-requires c κs = search needs
 returns-3 : tie.Need-returns-3
 returns-3 c =
     let a = (c .before .before .before .before .before .args) in
-    field-cut _ _ _ (omega arith) (omega arith) (bits-lacking (a .pack .now) (a .self .at) (a .width) (c .before .has-bits .result) (c .before .has-bits .ensures) (c .if3 .taken))
+    field-cut _ _ _ (omega arith) (omega arith)
+    (bits-lacking (a .pack .now) (a .self .at) (a .width) (c .before .has-bits .result) (c .before .has-bits .ensures) (c .if3 .taken))
 
 bits-at-requires : tie.Need-bits-at-requires
 bits-at-requires c κs = search needs
@@ -25,12 +26,15 @@ bits-at-requires c κs = search needs
 add-t8 : tie.Need-add-t8
 add-t8 c =
     let a = (c .before .before .before .before .before .before .args) in
-    let h = bits-left (a .pack .now) (a .self .at) (a .width) (c .before .before .has-bits .result) (c .before .before .has-bits .ensures) (c .before .if3 .left) in omega arith
+    let h = bits-left (a .pack .now) (a .self .at) (a .width) (c .before .before .has-bits .result) (c .before .before .has-bits .ensures) (c .before .if3 .left) in
+    omega arith
 
 returns-4 : tie.Need-returns-4
 returns-4 c =
     let a = (c .before .before .before .before .before .before .args) in
-    field-there _ _ _ _ (omega arith) (omega arith) (bits-left (a .pack .now) (a .self .at) (a .width) (c .before .before .has-bits .result) (c .before .before .has-bits .ensures) (c .before .if3 .left)) (c .bits-at .ensures)
+    field-there _ _ _ _ (omega arith) (omega arith)
+    (bits-left (a .pack .now) (a .self .at) (a .width) (c .before .before .has-bits .result) (c .before .before .has-bits .ensures) (c .before .if3 .left))
+    (c .bits-at .ensures)
 
 pub field-spec : {M : Type 1} → statement M
 field-spec =
