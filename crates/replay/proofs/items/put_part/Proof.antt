@@ -1,11 +1,11 @@
--- `try_char_def::put_part` ends: `at` rises to `to`.
+-- `replay::items::put_part` ends: `at` rises to `to`.
 -- Assumes nothing.
 use borrow.Author.Needs.{needs}
 use Prim.Native.Nat.{_-_}
 use mathlib.Core.Path.{_≡_}
 use lib.ListN.{length}
-use Rattle.try_char_def.proofs.put_part.Statement.{statement}
-use Rattle.try_char_def.proofs.put_part.Tie as tie
+use Rattle.replay.proofs.items.put_part.Statement.{statement}
+use Rattle.replay.proofs.items.put_part.Tie as tie
 
 abbrev Inv-loop : tie.InvT-loop
 Inv-loop base from to text₀ size end₀ at₀ text end at = length text ≡ length text₀
