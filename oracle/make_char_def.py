@@ -169,19 +169,19 @@ def make():
     written = [at % WRITTEN == 0 and at < len(plains) for at in range(len(cases))]
     lines = [f"{case.words} {answer_words(*pair)}" for case, *pair in zip(cases, answers, written)]
     lines += rooms() + damaged(random)
-    tell(lines)
+    tell("char_def.txt", lines)
     (FOLDER / "lists/char_def.txt").write_text("".join(line + "\n" for line in lines))
 
 
-def tell(lines):
+def tell(name, lines):
     """How often each answer comes."""
     kinds = {}
     for line in lines:
         words = line.split(" ")
-        ends = [at for at, item in enumerate(words) if item in ("a", "w", "r", "b")]
+        ends = [at for at, item in enumerate(words) if item in ("a", "w", "r", "b", "f", "p")]
         kind = "r " + words[ends[-1] + 1] if words[ends[-1]] == "r" else words[ends[-1]]
         kinds[kind] = kinds.get(kind, 0) + 1
-    print(f"char_def.txt: {len(lines)} lines: " + ", ".join(f"{kind}: {count}" for kind, count in sorted(kinds.items())))
+    print(f"{name}: {len(lines)} lines: " + ", ".join(f"{kind}: {count}" for kind, count in sorted(kinds.items())))
 
 
 if __name__ == "__main__":
