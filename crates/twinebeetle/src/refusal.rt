@@ -1,0 +1,110 @@
+// A refusal in words: the file, the place, the number and what it means; and where the place is a line, the line itself.
+use crate::file::put_argument;
+use crate::report::Report;
+use crate::words::put_meaning;
+use paper::Refusal;
+
+const LF: u8 = b'\n';
+
+// What the place of a refusal counts, by its number.
+pub enum Place {
+    Line(usize),
+    Byte(usize),
+    Bit(usize),
+    Nowhere,
+}
+
+fn place_of(x: Refusal) -> Place {
+    let number = x.number;
+    match number {
+        3 => Place::Byte(x.place),
+        4..=13 | 23..=25 => Place::Line(x.place),
+        18..=21 => Place::Bit(x.place),
+        _ => Place::Nowhere,
+    }
+}
+
+// The line, from 1, on which a byte stands.
+fn line_at(text: &[u8], place: usize) -> usize {
+    let mut line = 1;
+    let mut i = 0;
+    while i < text.len() {
+        if place <= i {
+            return line;
+        }
+        if text[i] == LF {
+            line += 1;
+        }
+        i += 1;
+    }
+    line
+}
+
+// Where a line begins.
+fn line_start(text: &[u8], line: usize) -> usize {
+    let mut left = line;
+    let mut i = 0;
+    while i < text.len() {
+        if left <= 1 {
+            return i;
+        }
+        if text[i] == LF {
+            left -= 1;
+        }
+        i += 1;
+    }
+    i
+}
+
+fn put_line(r: Report, room: &mut [u8], text: &[u8], line: usize) -> Report {
+    let mut next = r;
+    let mut i = line_start(text, line);
+    while i < text.len() {
+        if text[i] == LF {
+            return next.byte(room, LF);
+        }
+        next = next.byte(room, text[i]);
+        i += 1;
+    }
+    next.byte(room, LF)
+}
+
+fn put_number(r: Report, room: &mut [u8], before: &[u8], n: usize) -> Report {
+    r.bytes(room, before).decimal(room, n as u64)
+}
+
+// An editor needs the line of a bad byte too.
+fn put_place(r: Report, room: &mut [u8], text: &[u8], place: Place) -> Report {
+    match place {
+        Place::Line(n) => put_number(r, room, b":", n),
+        Place::Byte(n) => {
+            let line = line_at(text, n);
+            put_number(put_number(r, room, b":", line), room, b": byte ", n)
+        }
+        Place::Bit(n) => put_number(r, room, b": bit ", n),
+        Place::Nowhere => r,
+    }
+}
+
+fn put_bad_line(r: Report, room: &mut [u8], text: &[u8], place: Place) -> Report {
+    match place {
+        Place::Line(n) => put_line(r, room, text, n),
+        Place::Byte(n) => put_line(r, room, text, line_at(text, n)),
+        Place::Bit(_) => r,
+        Place::Nowhere => r,
+    }
+}
+
+// The number and what it means.
+fn put_number_and_meaning(r: Report, room: &mut [u8], number: u32) -> Report {
+    let numbered = put_number(r, room, b": refused ", number as usize).bytes(room, b": ");
+    put_meaning(numbered, room, number).byte(room, LF)
+}
+
+// What is refused is named by argument i.
+pub fn put_refusal(r: Report, room: &mut [u8], i: usize, text: &[u8], x: Refusal) -> Report {
+    let place = place_of(x);
+    let placed = put_place(put_argument(r, room, i), room, text, place);
+    let said = put_number_and_meaning(placed, room, x.number);
+    put_bad_line(said.refuse(), room, text, place)
+}
