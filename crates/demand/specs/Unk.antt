@@ -34,11 +34,9 @@ pub record ReadsUnk (q : Reading) {t : Tables} {n : Counts} (text : List ℕ) (r
   pub accepted-exactly : (c : UnkCounts) → (run .outcome ≡ Accepted c) ↔ ((u : Unk) × UnkFits (q .names) text u × (c ≡ countsOf u))
   pub one-answer : (u v : Unk) → UnkFits (q .names) text u → UnkFits (q .names) text v → u ≡ v
   pub in-the-tables : (u : Unk) → UnkFits (q .names) text u → run .left ≡ behind (inRoom (layout u)) (past (run .lent))
-
   -- refused exactly with the number and the place of what is wrong, 2, 3, or 23 to 25 with the first bad line; and what that leaves
   pub refused-exactly : (x : Refusal) → (run .outcome ≡ Refused x) ↔ UnkRefused text (x .number) (x .place)
   pub after-refusal : (x : Refusal) → run .outcome ≡ Refused x → run .left ≡ cond (clears (x .number)) (cleared (run .lent)) (run .lent)
-
   -- "A category's entries are those whose first field equals its name, ascending"
   pub category-list : (u : Unk) (f : UnkFits (q .names) text u) (c : ℕ) (ks : List ℕ)
       → (entriesOf u c ≡ some ks) ↔ ((name : List ℕ) × (getElem? (q .names) c ≡ some name) × CategoryEntries name (f .entries) ks)
