@@ -25,7 +25,8 @@ returns c = let a = (c .before .before .before .before .before .before .before .
 append-entry-requires : tie.Need-append-entry-requires
 append-entry-requires c κs = let a = (c .before .before .before .before .before .before .before .before .before .before .before .before .before .before .before .args) in
     let s = says-as (now (a .text)) (a .start) (a .end) _ (Entry ((c .before .before .before .before .before .before .e .given .0 .0))) ((c .before .before .before .before .before .before .e .given .1)) ((c .before .before .before .before .before .before .before .before .parse-dictionary-entry .ensures)) in
-    (placed ((c .before .before .before .before .before .before .before .before .before .before .before .before .before .before .before .pre .0)) s, ((c .before .before .before .before .before .before .before .before .before .before .before .before .before .before .before .pre .1 .0 .categories), room-left ((c .before .before .before .before .before .before .before .before .before .before .before .before .before .before .before .pre .0)) s ((c .before .before .before .before .before .before .before .before .before .before .before .before .before .before .before .pre .1 .1 .held)) ((c .before .before .before .before .before .before .before .before .before .before .before .before .before .before .before .pre .1 .0)) ((c .before .before .before .if1 .left))))
+    let g = (c .before .before .before .if1 .left) in
+    (placed ((c .before .before .before .before .before .before .before .before .before .before .before .before .before .before .before .pre .0)) s, ((c .before .before .before .before .before .before .before .before .before .before .before .before .before .before .before .pre .1 .0 .categories), room-left ((c .before .before .before .before .before .before .before .before .before .before .before .before .before .before .before .pre .0)) s ((c .before .before .before .before .before .before .before .before .before .before .before .before .before .before .before .pre .1 .1 .held)) ((c .before .before .before .before .before .before .before .before .before .before .before .before .before .before .before .pre .1 .0)) (omega arith)))
 
 returns-2 : tie.Need-returns-2
 returns-2 c = let a = (c .before .before .before .before .before .before .before .before .before .before .args) in
@@ -43,7 +44,8 @@ same-length-3 c = search needs
 returns-3 : tie.Need-returns-3
 returns-3 c = let a = (c .before .before .before .before .before .before .before .before .before .before .before .before .before .before .before .before .before .before .before .before .before .before .args) in
     let s = says-as (now (a .text)) (a .start) (a .end) _ (Entry ((c .before .before .before .before .before .before .before .before .before .before .before .before .before .e .given .0 .0))) ((c .before .before .before .before .before .before .before .before .before .before .before .before .before .e .given .1)) ((c .before .before .before .before .before .before .before .before .before .before .before .before .before .before .before .parse-dictionary-entry .ensures)) in
-    λ es z. line-enters ((c .before .before .before .before .before .before .before .before .before .before .before .before .before .before .before .before .before .before .before .before .before .before .pre .0)) s z ((c .before .before .before .before .before .before .before .before .before .before .before .before .before .before .before .before .before .before .before .before .before .before .pre .1 .0)) ((c .before .before .before .before .before .before .before .before .before .before .if1 .left)) _ _ ((c .before .before .before .before .before .before .append-entry .ensures))
+    let g = (c .before .before .before .before .before .before .before .before .before .before .if1 .left) in
+    λ es z. line-enters ((c .before .before .before .before .before .before .before .before .before .before .before .before .before .before .before .before .before .before .before .before .before .before .pre .0)) s z ((c .before .before .before .before .before .before .before .before .before .before .before .before .before .before .before .before .before .before .before .before .before .before .pre .1 .0)) (omega arith) _ _ ((c .before .before .before .before .before .before .append-entry .ensures))
 
 pub enter-line-spec : {M : Type 1} → statement M
 enter-line-spec =

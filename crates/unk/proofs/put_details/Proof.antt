@@ -1,6 +1,5 @@
 -- `unk::put_details` meets its contract: two writes are one patch. Assumes nothing.
 use native.Mathlib.Omega.{arith}
-use mathlib.Core.Path.{refl}
 use Rattle.unk.proofs.Copy.{length-and-fields}
 use borrow.Author.Needs.{needs}
 use Rattle.unk.proofs.put_details.Statement.{statement}
@@ -25,7 +24,7 @@ same-length : tie.Need-same-length
 same-length c = search needs
 
 returns : tie.Need-returns
-returns c = length-and-fields _ _ _ _ _ _ _ _ ((c .before .before .before .before .before .before .before .before .before .before .pre .0)) refl (omega arith) ((c .before .before .before .before .before .before .put-u32 .ensures)) ((c .before .before .copy-joined .ensures))
+returns c = length-and-fields _ _ _ _ _ _ _ _ ((c .before .before .before .before .before .before .before .before .before .before .pre .0)) (omega arith) (omega arith) ((c .before .before .before .before .before .before .put-u32 .ensures)) ((c .before .before .copy-joined .ensures))
 
 pub put-details-spec : {M : Type 1} → statement M
 put-details-spec =

@@ -24,7 +24,7 @@ shared-slice-read-if1 : tie.Need-shared-slice-read-if1 Inv-loop μ-loop
 shared-slice-read-if1 c = search needs
 
 returns : tie.Need-returns Inv-loop μ-loop
-returns c = seek-found ((c .before .before .before .loop .inv)) ((c .before .before .loop-test .taken)) ((c .if1 .taken)) ∙ whole-part _ _ _ _ ((c .before .before .before .before .least .ensures))
+returns c = let a = seek-found ((c .before .before .before .loop .inv)) ((c .before .before .loop-test .taken)) ((c .if1 .taken)) in let b = whole-part (now ((c .before .before .before .before .before .before .args .text))) ((c .before .before .before .before .before .before .args .start)) ((c .before .before .before .before .before .before .args .end)) ((c .before .before .before .before .before .before .args .byte)) ((c .before .before .before .before .least .ensures)) in omega arith
 
 add-at : tie.Need-add-at Inv-loop μ-loop
 add-at c = search needs
@@ -36,7 +36,7 @@ loop-again : tie.Need-loop-again Inv-loop μ-loop
 loop-again c = seek-on ((c .before .before .before .loop .inv)) ((c .before .before .loop-test .taken)) ((c .if1 .left))
 
 returns-2 : tie.Need-returns-2 Inv-loop μ-loop
-returns-2 c = seek-end ((c .before .loop .inv)) ((c .loop-test .left)) ∙ whole-part _ _ _ _ ((c .before .before .least .ensures))
+returns-2 c = let a = seek-end ((c .before .loop .inv)) ((c .loop-test .left)) in let b = whole-part (now ((c .before .before .before .before .args .text))) ((c .before .before .before .before .args .start)) ((c .before .before .before .before .args .end)) ((c .before .before .before .before .args .byte)) ((c .before .before .least .ensures)) in omega arith
 
 pub find-byte-spec : {M : Type 1} → statement M
 find-byte-spec =
