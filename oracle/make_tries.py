@@ -35,7 +35,8 @@ def try_text():
     return texts + characters() + lines("utf8_runs.txt") + white + none
 
 
-TRIES = {"try_text": try_text, "try_numeral": lambda: lines("numerals.txt"), "try_char_def": lambda: lines("char_def.txt")}
+TRIES = {"try_text": try_text, "try_numeral": lambda: lines("numerals.txt"), "try_char_def": lambda: lines("char_def.txt"),
+         "try_pack": lambda: lines("packs.txt")}
 
 
 def main():

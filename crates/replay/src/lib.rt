@@ -1,5 +1,9 @@
 // Fixed lists that the try_ programs replay: fields between spaces, lines between LFs, numbers and bytes in hex.
 // Every function takes any bytes and any place; what a list does not have is read as 0 or as nothing.
+pub mod items;
+pub mod rooms;
+pub mod tally;
+
 ghost use Prim.Native.Nat.{_<_};
 ghost use lib.ListN.{length};
 ghost use Rattle.io.specs.Counts.{Counts};
@@ -125,4 +129,16 @@ pub fn bytes_of(list: &[u8], start: usize, end: usize, room: &mut [u8]) -> usize
         at += 2;
     }
     n
+}
+
+// The decimal number that the field at a place spells.
+pub fn number_at(list: &[u8], at: usize) -> u64 {
+    let field = field_at(list, at);
+    number_of(list, field.start, field.end, false)
+}
+
+// Where the field behind the one at a place begins.
+pub fn after_field(list: &[u8], at: usize) -> usize {
+    let field = field_at(list, at);
+    field.next
 }

@@ -1,16 +1,16 @@
--- `try_char_def::sum_over` ends: `at` rises to the room's length.
+-- `replay::rooms::sum_over` ends: `at` rises to the room's length.
 -- Assumes nothing.
 use borrow.Author.Needs.{needs}
 use Prim.Native.Nat.{_-_}
 use lib.ListN.{length}
-use Rattle.try_char_def.proofs.sum_over.Statement.{statement}
-use Rattle.try_char_def.proofs.sum_over.Tie as tie
+use Rattle.replay.proofs.rooms.sum_over.Statement.{statement}
+use Rattle.replay.proofs.rooms.sum_over.Tie as tie
 
 abbrev Inv-loop : tie.InvT-loop
-Inv-loop sum room guard total₀ at₀ total at = Unit {0}
+Inv-loop sum room total₀ at₀ total at = Unit {0}
 
 abbrev μ-loop : tie.MeasureT-loop
-μ-loop sum room guard total₀ at₀ total at = length room - at
+μ-loop sum room total₀ at₀ total at = length room - at
 
 loop-holds : tie.Need-loop-holds Inv-loop μ-loop
 loop-holds c = search needs

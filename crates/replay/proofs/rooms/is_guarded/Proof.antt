@@ -1,16 +1,16 @@
--- `try_char_def::is_guarded` ends: `at` rises to the room's length.
+-- `replay::rooms::is_guarded` ends: `at` rises to the room's length.
 -- Assumes nothing.
 use borrow.Author.Needs.{needs}
 use Prim.Native.Nat.{_-_}
 use lib.ListN.{length}
-use Rattle.try_char_def.proofs.is_guarded.Statement.{statement}
-use Rattle.try_char_def.proofs.is_guarded.Tie as tie
+use Rattle.replay.proofs.rooms.is_guarded.Statement.{statement}
+use Rattle.replay.proofs.rooms.is_guarded.Tie as tie
 
 abbrev Inv-loop : tie.InvT-loop
-Inv-loop room guard at₀ at = Unit {0}
+Inv-loop room at₀ at = Unit {0}
 
 abbrev μ-loop : tie.MeasureT-loop
-μ-loop room guard at₀ at = length room - at
+μ-loop room at₀ at = length room - at
 
 loop-holds : tie.Need-loop-holds Inv-loop μ-loop
 loop-holds c = search needs

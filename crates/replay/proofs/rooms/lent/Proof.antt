@@ -1,11 +1,11 @@
--- `try_char_def::lent` meets its contract: it never passes the room's length.
+-- `replay::rooms::lent` meets its contract: it never passes the room's length.
 -- Assumes nothing.
 use borrow.Author.Needs.{needs}
 use native.Mathlib.Omega.{arith}
 use Rattle.io.proofs.Counting.{counts}
 use borrow.Author.Needs.{needs}
-use Rattle.try_char_def.proofs.lent.Statement.{statement}
-use Rattle.try_char_def.proofs.lent.Tie as tie
+use Rattle.replay.proofs.rooms.lent.Statement.{statement}
+use Rattle.replay.proofs.rooms.lent.Tie as tie
 
 sub-result : tie.Need-sub-result
 sub-result c = search needs

@@ -1,16 +1,16 @@
--- `try_char_def::built` ends: `left` falls with each item.
+-- `replay::items::built` ends: `left` falls with each item.
 -- Assumes nothing.
 use borrow.Author.Needs.{needs}
 use mathlib.Core.Path.{_≡_}
 use lib.ListN.{length}
-use Rattle.try_char_def.proofs.built.Statement.{statement}
-use Rattle.try_char_def.proofs.built.Tie as tie
+use Rattle.replay.proofs.items.built.Statement.{statement}
+use Rattle.replay.proofs.items.built.Tie as tie
 
 abbrev Inv-loop : tie.InvT-loop
-Inv-loop list text₀ base₀ r₀ left₀ text base r left = (length text ≡ length text₀) × (length base ≡ length base₀)
+Inv-loop list at kept text₀ base₀ r₀ left₀ text base r left = (length text ≡ length text₀) × (length base ≡ length base₀)
 
 abbrev μ-loop : tie.MeasureT-loop
-μ-loop list text₀ base₀ r₀ left₀ text base r left = left
+μ-loop list at kept text₀ base₀ r₀ left₀ text base r left = left
 
 loop-holds : tie.Need-loop-holds Inv-loop μ-loop
 loop-holds c = search needs

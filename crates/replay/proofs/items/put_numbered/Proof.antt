@@ -1,11 +1,11 @@
--- `try_char_def::put_numbered` ends: `k` rises past `last`, and no list has a number past 100,000.
+-- `replay::items::put_numbered` ends: `k` rises past `last`, and no list has a number past 100,000.
 -- Assumes nothing.
 use borrow.Author.Needs.{needs}
 use Prim.Native.Nat.{_-_}
 use mathlib.Core.Path.{_≡_}
 use lib.ListN.{length}
-use Rattle.try_char_def.proofs.put_numbered.Statement.{statement}
-use Rattle.try_char_def.proofs.put_numbered.Tie as tie
+use Rattle.replay.proofs.items.put_numbered.Statement.{statement}
+use Rattle.replay.proofs.items.put_numbered.Tie as tie
 
 abbrev Inv-loop : tie.InvT-loop
 Inv-loop list head tail text₀ size first last end₀ k₀ text end k = length text ≡ length text₀

@@ -1,11 +1,11 @@
--- `try_char_def::put_times` ends: `k` rises to `times`.
+-- `replay::items::put_times` ends: `k` rises to `times`.
 -- Assumes nothing.
 use borrow.Author.Needs.{needs}
 use Prim.Native.Nat.{_-_}
 use mathlib.Core.Path.{_≡_}
 use lib.ListN.{length}
-use Rattle.try_char_def.proofs.put_times.Statement.{statement}
-use Rattle.try_char_def.proofs.put_times.Tie as tie
+use Rattle.replay.proofs.items.put_times.Statement.{statement}
+use Rattle.replay.proofs.items.put_times.Tie as tie
 
 abbrev Inv-loop : tie.InvT-loop
 Inv-loop list at text₀ size times end₀ k₀ text end k = length text ≡ length text₀

@@ -1,17 +1,17 @@
--- `try_char_def::put_part` ends: `at` rises to `to`.
+-- `replay::items::keep` ends: `at` rises to `size`.
 -- Assumes nothing.
 use borrow.Author.Needs.{needs}
 use Prim.Native.Nat.{_-_}
 use mathlib.Core.Path.{_≡_}
 use lib.ListN.{length}
-use Rattle.try_char_def.proofs.put_part.Statement.{statement}
-use Rattle.try_char_def.proofs.put_part.Tie as tie
+use Rattle.replay.proofs.items.keep.Statement.{statement}
+use Rattle.replay.proofs.items.keep.Tie as tie
 
 abbrev Inv-loop : tie.InvT-loop
-Inv-loop base from to text₀ size end₀ at₀ text end at = length text ≡ length text₀
+Inv-loop text size base₀ at₀ base at = length base ≡ length base₀
 
 abbrev μ-loop : tie.MeasureT-loop
-μ-loop base from to text₀ size end₀ at₀ text end at = to - at
+μ-loop text size base₀ at₀ base at = size - at
 
 loop-holds : tie.Need-loop-holds Inv-loop μ-loop
 loop-holds c = search needs
@@ -22,11 +22,11 @@ same-length c = search needs
 returns : tie.Need-returns Inv-loop μ-loop
 returns c = search needs
 
-shared-slice-read-put-byte : tie.Need-shared-slice-read-put-byte Inv-loop μ-loop
-shared-slice-read-put-byte c = search needs
+byte-at-requires : tie.Need-byte-at-requires Inv-loop μ-loop
+byte-at-requires c κs = search needs
 
-put-byte-requires : tie.Need-put-byte-requires Inv-loop μ-loop
-put-byte-requires c κs = search needs
+slice-write-base : tie.Need-slice-write-base Inv-loop μ-loop
+slice-write-base c = search needs
 
 add-at : tie.Need-add-at Inv-loop μ-loop
 add-at c = search needs
@@ -43,8 +43,8 @@ same-length-2 c = search needs
 returns-2 : tie.Need-returns-2 Inv-loop μ-loop
 returns-2 c = search needs
 
-pub put-part-spec : {M : Type 1} → statement M
-put-part-spec =
+pub keep-spec : {M : Type 1} → statement M
+keep-spec =
     tie.close
     (tie.spec
     Inv-loop
@@ -52,8 +52,8 @@ put-part-spec =
     loop-holds
     same-length
     returns
-    shared-slice-read-put-byte
-    put-byte-requires
+    byte-at-requires
+    slice-write-base
     add-at
     loop-less
     loop-again
