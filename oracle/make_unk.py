@@ -1,10 +1,10 @@
 #!/usr/bin/env python3
 """Makes lists/unk.txt from the built oracle. README.md has its format."""
 
-import handed
 import layout
 import paper
 import unk_cases as cases
+import unk_handed as handed
 from ask import FOLDER, Random, ask, word
 from items import edited, plain, text, times
 from texts import long_unk_text, spliced, unk_bases, unk_edit, unk_noise, unk_text

@@ -12,7 +12,7 @@ from texts import ILL_FORMED
 # char.def texts. The first is the one for most: names of every sort, and one (A,B) that no line of unk.def can have.
 MIXED = text("A 1 0 2\n0x41..0x43 B A é\nDEFAULT 0 1 0\n漢字 1 1 0\nA\u3000B 1 0 2\n0x50 0x A\u200b \ufeffA ..\n"
              "0x60 AA AAA AB a\nA,B 1 0 2\n\"A\" 1 0 2\nA\0B 1 0 2\n0x70\n")
-# handed.py breaks these two: names of one, one, three and two bytes, ranges of two, no, one and three references; no range.
+# unk_handed.py breaks these two: names of one, one, three and two bytes, ranges of two, no, one and three references; no range.
 SMALL = text("A 1 0 2\nB 0 1 3\n漢 1 1 4294967295\n0x41..0x43 A B\n0x50\n0x60..0x5F 漢\n0x70 é A é")
 BARE = text("A 1 0 2\nB 1 1 1\n")
 NONE = text("# no category\n0x41\n")
