@@ -7,7 +7,7 @@ import unk_cases as cases
 import unk_handed as handed
 from ask import FOLDER, Random, ask, word
 from items import edited, plain, text, times
-from texts import long_unk_text, spliced, unk_bases, unk_edit, unk_noise, unk_text
+from texts import long_unk_text, unk_bases, unk_edit, unk_noise, unk_text
 
 SEED = 8
 
@@ -215,7 +215,8 @@ def over_full(made, random):
     made.over(cases.FULL)
     made.texts(cases.over_full())
     ends = [(table, room - width) for table, (room, width) in enumerate(zip(layout.ROOMS, handed.WIDTHS))]
-    tables = [made.whole.put(table, at, bytes([made.whole.tables[table][at] ^ 1])) for table, at in ends]
+    tables = handed.past_limits(made.whole)
+    tables += [made.whole.put(table, at, bytes([made.whole.tables[table][at] ^ 1])) for table, at in ends]
     tables += [*handed.each_cut(made.whole), *handed.each_count(made.whole), *handed.each_bound(made.whole, 2047), *handed.unknown_numbers(made.whole)]
     made.handed(text("A,1,2,3"), tables + [handed.random_damage(random, made.whole) for _ in range(DAMAGES)])
 
@@ -227,7 +228,8 @@ def make():
     made.texts(cases.limits())
     made.damaged(random)
     handed_in(made, random)
-    for char_def, some in ((cases.NONE, cases.over_few()), (cases.BARE, cases.over_few()), (cases.MANY, cases.over_many()), (cases.LONG, cases.over_long())):
+    few, many, long, marks = cases.over_few(), cases.over_many(), cases.over_long(), cases.over_marks()
+    for char_def, some in ((cases.NONE, few), (cases.BARE, few), (cases.MANY, many), (cases.LONG, long), (cases.MARKS, marks)):
         made.over(char_def)
         made.texts(some)
     made.over(cases.MANY)

@@ -18,6 +18,8 @@ BARE = text("A 1 0 2\nB 1 1 1\n")
 NONE = text("# no category\n0x41\n")
 SAMPLE = text((FOLDER.parent / "samples/char.def").read_bytes())
 MANY = text(numbered(1, 512, "0x41 N", "\n"))
+# Two and two have the same mark in crate `hold`, and are not the same.
+MARKS = text("0x41 WtewwG VKdRRz UgsAgb jFVMIa")
 LONG = text("0x41 ", times(16384, "A"))
 FULL = full()[0]
 
@@ -183,6 +185,10 @@ def over_long():
     """A category of 16,384 bytes."""
     each = [text(times(count, "A"), ",1,2,3,x") for count in (16383, 16384, 16385)]
     return each + [text(times(16384, "A"), ",1,2,3,x\n", times(16384, "A"), ",4,5,6\n", times(16384, "A"), last) for last in ("", ",7,8,9")]
+
+
+def over_marks():
+    return [text("VKdRRz,1,2,3\njFVMIa,4,5,6\nWtewwG,7,8,9\nUgsAgb,1,1,1\nVKdRRz,2,2,2")]
 
 
 def over_full():

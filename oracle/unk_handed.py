@@ -9,8 +9,9 @@ from ask import word
 NAMES, CATEGORIES, DEFINITIONS, RANGES, REFERENCES = range(5)
 # Counts, in their order.
 OF_CATEGORIES, OF_DEFINITIONS, OF_RANGES, OF_REFERENCES, OF_NAME_BYTES = range(5)
-# The bytes of an entry of each table.
+# The bytes of an entry of each table, and how many bytes stand behind each table's size, so that a count may pass its limit.
 WIDTHS = (1, 4, 6, 8, 2)
+SPARE = 16
 # What a bound must not be, and what stands beside it.
 BOUNDS = (0xD7FF, 0xD800, 0xDBFF, 0xDC00, 0xDFFF, 0xE000, 0xFEFE, 0xFEFF, 0xFF00, 0xFFFD, 0xFFFE, 0xFFFF)
 
@@ -55,8 +56,8 @@ class Handed(NamedTuple):
 
 
 def handed(reading):
-    """The tables as the reader of char.def leaves them in rooms of the full sizes."""
-    tables = (table.ljust(room, b"\0") for table, room in zip(layout.tables(reading), layout.ROOMS))
+    """The tables as the reader of char.def leaves them in rooms that were zero."""
+    tables = (table.ljust(room + SPARE, b"\0") for table, room in zip(layout.tables(reading), layout.ROOMS))
     return Handed("", tuple(tables), layout.counts(reading))
 
 
@@ -121,6 +122,18 @@ def unknown_numbers(whole):
     """A category number in each reference that isn't known, and the last that is."""
     known, last = whole.counts[OF_CATEGORIES], whole.counts[OF_REFERENCES]
     return [whole.put(REFERENCES, 2 * at, layout.le(number, 2)) for at in {0: 0, last - 1: 0} for number in (known - 1, known, known + 1, 256, 65535)]
+
+
+def past_limits(whole):
+    """One entry more in each table of a full reading, and nothing wrong with it but the limit. The last two names are of 63 bytes and of one."""
+    le = layout.le
+    assert whole.used() == list(layout.ROOMS)
+    more_bytes = whole.put(CATEGORIES, 2046, le(2, 2)).put(NAMES, 16384, b"X").counted(OF_NAME_BYTES, 16385)
+    split = b"".join(le(start, 2) + le(length, 2) for start, length in ((16320, 62), (16382, 1), (16383, 1)))
+    more_names = whole.put(CATEGORIES, 2040, split).counted(OF_CATEGORIES, 513)
+    more_ranges = whole.put(RANGES, 16384, b"".join(le(number, 2) for number in (0x41, 0x43, 8192, 0))).counted(OF_RANGES, 2049)
+    more_references = whole.put(RANGES, 16382, le(5, 2)).counted(OF_REFERENCES, 8193)
+    return [more_bytes, more_names, whole.counted(OF_DEFINITIONS, 513), more_ranges, more_references]
 
 
 def random_damage(random, whole):
