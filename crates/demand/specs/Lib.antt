@@ -1,3 +1,5 @@
 -- The user's demands, a file for each.
 pub mod Demand1
+pub mod Demand2
+pub mod Packs
 pub mod Demand3

@@ -21,7 +21,7 @@ once-alike [] b c e = refl
 once-alike (n ∷ ns) b c e =
     ap₂ (λ x y. not x && y) (e n) (once-alike ns (n ∷ b) (n ∷ c) (λ x. ap (λ y. same x n || y) (e x)))
 
-any-snoc : (p : List ℕ → Bool) (xs : List (List ℕ)) (x : List ℕ) → any p (x ∷ xs) ≡ any p (xs ++ (x ∷ []))
+pub any-snoc : (p : List ℕ → Bool) (xs : List (List ℕ)) (x : List ℕ) → any p (x ∷ xs) ≡ any p (xs ++ (x ∷ []))
 any-snoc p [] x = refl
 any-snoc p (y ∷ xs) x =
     sym (or-assoc (p x) (p y) (any p xs)) ∙ ap (λ b. b || any p xs) (or-comm (p x) (p y)) ∙ or-assoc (p y) (p x) (any p xs)

@@ -211,7 +211,7 @@ fn name_at<'a>(names: &'a [u8], categories: &'a [u8], i: usize) -> &'a [u8]
 }
 
 // A name is well-formed UTF-8 exactly where its longest well-formed prefix is all of it.
-fn is_formed(name: &[u8]) -> bool
+pub fn is_formed(name: &[u8]) -> bool
     ensures { λ r. ⌜ r ≡ formed (now (name .entry)) ⌝ }
 {
     text::valid_prefix(name) == name.len()
@@ -257,7 +257,7 @@ fn wide(x: u8) -> u64
 }
 
 // A number made of all bytes of a name: names that are the same have the same mark.
-fn mark_of(name: &[u8]) -> u32
+pub fn mark_of(name: &[u8]) -> u32
     ensures { λ r. ⌜ r ≡ mark (now (name .entry)) ⌝ }
 {
     let mut h = 0u64;
@@ -282,7 +282,7 @@ fn mark_names<'a>(names: &'a [u8], categories: &'a [u8], n: usize, marks: &mut [
 }
 
 // No name before name i is the same. Only names of one mark are compared.
-fn is_new<'a>(names: &'a [u8], categories: &'a [u8], marks: &'a [u32], i: usize) -> bool
+pub fn is_new<'a>(names: &'a [u8], categories: &'a [u8], marks: &'a [u32], i: usize) -> bool
     requires { ⌜ (4 * i + 4 ≤ length (now categories)) × (i < length (now marks)) ⌝ }
     requires { ⌜ Marked (i + 1) (now categories) (now names) (now marks) ⌝ }
     ensures { λ r. ⌜ r ≡ not (any (same (nameOf i (now (categories .entry)) (now (names .entry)))) (placedNames i (now (categories .entry)) (now (names .entry)))) ⌝ }

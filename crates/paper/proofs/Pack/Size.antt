@@ -102,7 +102,7 @@ packBits-length r =
     ∙ ap (λ k. width (head r) + k) (width-append ns (ds ++ gs) ∙ ap (λ k. width ns + k) (width-append ds gs))
     ∙ rw (names-width (r .names), definitions-width (r .definitions), ranges-width (r .ranges)) (omega arith)
 
-inBytes-length : (l : List ℕ) → length (inBytes l) ≡ (length l + 7) / byteWidth
+pub inBytes-length : (l : List ℕ) → length (inBytes l) ≡ (length l + 7) / byteWidth
 unfolding inBytes
 inBytes-length [] = refl
 inBytes-length (a ∷ []) = refl

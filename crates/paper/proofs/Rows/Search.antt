@@ -44,7 +44,7 @@ above-outside b low c (x ∷ bs) h t =
     never : low ≤ x → x ≤ c → ⊥
     never k l = omega arith
 
-rising-at : (low : ℕ) (bs : List ℕ) (i : ℕ) → T (risingFrom low bs) → i < length bs → low ≤ getD bs i 0
+pub rising-at : (low : ℕ) (bs : List ℕ) (i : ℕ) → T (risingFrom low bs) → i < length bs → low ≤ getD bs i 0
 rising-at low [] i t h = absurd (not-suc-le-zero h)
 rising-at low (x ∷ bs) zero t h = leb-yes (and-yes (leb low x) (risingFrom (suc x) bs) t .0)
 rising-at low (x ∷ bs) (suc i) t h =

@@ -288,6 +288,11 @@ unfolding references
 numbers-length [] = refl
 numbers-length (g ∷ gs) = length-append (g .categories) (numbersOf gs) ∙ ap (λ m. length (g .categories) + m) (numbers-length gs)
 
+rows-counts : (at : ℕ) (gs : List Range) → map (λ r. r .count) (rangeSlots at gs) ≡ map (λ g. length (g .categories)) gs
+unfolding rangeSlots
+rows-counts at [] = refl
+rows-counts at (g ∷ gs) = ap (λ l. length (g .categories) ∷ l) (rows-counts (at + length (g .categories)) gs)
+
 record Ranged (at : ℕ) (rs : List RangeSlot) (l : List ℕ) : Type 0 where
   again-rows : rangeSlots at (ranging rs l) ≡ rs
   again-numbers : numbersOf (ranging rs l) ≡ l
@@ -522,16 +527,17 @@ says a b c d e n t =
       for-references = leb-yes (t9 .1);
     }
 
-record Parts (t : Tables) (n : Counts) : Type 0 where
-  long : Enough (length (t .names)) (length (t .categories)) (length (t .definitions)) (length (t .ranges)) (length (t .references)) n
-  placed : T (nameSlotsStand (n .bytes) 0 (nameSlotsIn t n))
-  flags : T (all flagged (pieces definitionSize (n .definitions) (t .definitions)))
-  rowed : T (slotsStand (n .references) 0 (slotsIn t n))
-  known : T (all (λ c. ltb c (n .categories)) (numbersIn t n))
-  well : T (all formed (namesIn t n))
-  single : T (once (namesIn t n))
+-- the test's parts
+pub record Parts (t : Tables) (n : Counts) : Type 0 where
+  pub long : Enough (length (t .names)) (length (t .categories)) (length (t .definitions)) (length (t .ranges)) (length (t .references)) n
+  pub placed : T (nameSlotsStand (n .bytes) 0 (nameSlotsIn t n))
+  pub flags : T (all flagged (pieces definitionSize (n .definitions) (t .definitions)))
+  pub rowed : T (slotsStand (n .references) 0 (slotsIn t n))
+  pub known : T (all (λ c. ltb c (n .categories)) (numbersIn t n))
+  pub well : T (all formed (namesIn t n))
+  pub single : T (once (namesIn t n))
 
-parts : (t : Tables) (n : Counts) → T (holds t n) → Parts t n
+pub parts : (t : Tables) (n : Counts) → T (holds t n) → Parts t n
 unfolding holds
 parts t n h =
     let h1 = and-yes (enough (length (t .names)) (length (t .categories)) (length (t .definitions)) (length (t .ranges)) (length (t .references)) n) _ h in
@@ -592,8 +598,9 @@ lengths-small (suc n) l t =
     (is-lt (value (take 4 (take 6 l))) (maxU32 + 1) (value-small 4 (take 4 (take 6 l)) (all-take isByte 4 (take 6 l) (all-take isByte 6 l t)) (short 4 (take 6 l))))
     (lengths-small n (drop 6 l) (all-drop isByte 6 l t))
 
-module _ (t : Tables) (n : Counts) (b : OfBytes t) (h : Parts t n) where
-  names-lens : map length (namesIn t n) ≡ map (λ p. p .len) (nameSlotsIn t n)
+module _ (t : Tables) (n : Counts) (h : Parts t n) where
+  -- the names are as long as their slots say
+  pub names-lens : map length (namesIn t n) ≡ map (λ p. p .len) (nameSlotsIn t n)
   unfolding namesIn
   names-lens =
       let s = standing (n .bytes) 0 (nameSlotsIn t n) (h .placed) in
@@ -609,23 +616,6 @@ module _ (t : Tables) (n : Counts) (b : OfBytes t) (h : Parts t n) where
       let e : sum (map (λ p. p .len) (nameSlotsIn t n)) ≡ n .bytes = omega arith in
       joined-split (map (λ p. p .len) (nameSlotsIn t n)) (t .names) ∙ ap (λ m. take m (t .names)) e
 
-  used-categories : joined (map nameSlotBytes (nameSlots 0 (map length (namesIn t n)))) ≡ take (nameSlotSize * n .categories) (t .categories)
-  unfolding nameSlotsIn
-  used-categories =
-      ap (λ l. joined (map nameSlotBytes (nameSlots 0 l))) names-lens
-      ∙ ap (λ l. joined (map nameSlotBytes l)) (standing (n .bytes) 0 (nameSlotsIn t n) (h .placed) .again-places)
-      ∙ go
-    where
-      go : joined (map nameSlotBytes (nameSlotsIn t n)) ≡ take (nameSlotSize * n .categories) (t .categories)
-      go = again nameSlotSize nameSlotBytes nameSlotOf (whole nameSlotSize) place-back (n .categories) (t .categories)
-          (pieces-whole nameSlotSize (n .categories) (t .categories) (b .in-categories) (h .long .for-categories))
-
-  used-definitions : joined (map definitionBytes (map definitionOf (pieces definitionSize (n .definitions) (t .definitions)))) ≡ take (definitionSize * n .definitions) (t .definitions)
-  used-definitions =
-      again definitionSize definitionBytes definitionOf (λ p. whole definitionSize p && flagged p) definition-back (n .definitions) (t .definitions)
-      (all-both (whole definitionSize) flagged (pieces definitionSize (n .definitions) (t .definitions))
-      (pieces-whole definitionSize (n .definitions) (t .definitions) (b .in-definitions) (h .long .for-definitions)) (h .flags))
-
   ranges-are : Ranged 0 (slotsIn t n) (numbersIn t n)
   unfolding numbersIn
   ranges-are =
@@ -633,22 +623,12 @@ module _ (t : Tables) (n : Counts) (b : OfBytes t) (h : Parts t n) where
       length-map (pieces referenceSize (n .references) (t .references)) (num referenceSize 0) ∙ pieces-length referenceSize (n .references) (t .references) in
       ranged (n .references) 0 (slotsIn t n) (numbersIn t n) (h .rowed) (omega arith)
 
-  used-ranges : joined (map slotBytes (rangeSlots 0 (ranging (slotsIn t n) (numbersIn t n)))) ≡ take (rangeSlotSize * n .ranges) (t .ranges)
-  unfolding slotsIn
-  used-ranges =
-      ap (λ l. joined (map slotBytes l)) (ranges-are .again-rows)
-      ∙ again rangeSlotSize slotBytes slotOf (whole rangeSlotSize) row-back (n .ranges) (t .ranges)
-      (pieces-whole rangeSlotSize (n .ranges) (t .ranges) (b .in-ranges) (h .long .for-ranges))
-
-  used-references : joined (map (le referenceSize) (numbersOf (ranging (slotsIn t n) (numbersIn t n)))) ≡ take (referenceSize * n .references) (t .references)
-  unfolding numbersIn
-  used-references =
-      ap (λ l. joined (map (le referenceSize) l)) (ranges-are .again-numbers)
-      ∙ again referenceSize (le referenceSize) (num referenceSize 0) (whole referenceSize) number-back (n .references) (t .references)
-      (pieces-whole referenceSize (n .references) (t .references) (b .in-references) (h .long .for-references))
+  -- the ranges have as many categories as their slots say
+  pub ranges-counts : map (λ g. length (g .categories)) (ranging (slotsIn t n) (numbersIn t n)) ≡ map (λ r. r .count) (slotsIn t n)
+  ranges-counts = sym (rows-counts 0 (ranging (slotsIn t n) (numbersIn t n))) ∙ ap (map (λ r. r .count)) (ranges-are .again-rows)
 
   -- the counts are the reading's
-  counts-are : countsOf (decoded t n) ≡ n
+  pub counts-are : countsOf (decoded t n) ≡ n
   unfolding countsOf decoded nameBytes slotsIn nameSlotsIn
   counts-are =
       let s = standing (n .bytes) 0 (nameSlotsIn t n) (h .placed) in
@@ -677,24 +657,56 @@ module _ (t : Tables) (n : Counts) (b : OfBytes t) (h : Parts t n) where
       go ([] ∷ ls) u = absurd u
       go ((a ∷ l) ∷ ls) u = go ls (and-yes (ltb 0 (suc (length l))) _ u .1)
 
+module _ (t : Tables) (n : Counts) (b : OfBytes t) (h : Parts t n) where
+  used-categories : joined (map nameSlotBytes (nameSlots 0 (map length (namesIn t n)))) ≡ take (nameSlotSize * n .categories) (t .categories)
+  unfolding nameSlotsIn
+  used-categories =
+      ap (λ l. joined (map nameSlotBytes (nameSlots 0 l))) (names-lens t n h)
+      ∙ ap (λ l. joined (map nameSlotBytes l)) (standing (n .bytes) 0 (nameSlotsIn t n) (h .placed) .again-places)
+      ∙ go
+    where
+      go : joined (map nameSlotBytes (nameSlotsIn t n)) ≡ take (nameSlotSize * n .categories) (t .categories)
+      go = again nameSlotSize nameSlotBytes nameSlotOf (whole nameSlotSize) place-back (n .categories) (t .categories)
+          (pieces-whole nameSlotSize (n .categories) (t .categories) (b .in-categories) (h .long .for-categories))
+
+  used-definitions : joined (map definitionBytes (map definitionOf (pieces definitionSize (n .definitions) (t .definitions)))) ≡ take (definitionSize * n .definitions) (t .definitions)
+  used-definitions =
+      again definitionSize definitionBytes definitionOf (λ p. whole definitionSize p && flagged p) definition-back (n .definitions) (t .definitions)
+      (all-both (whole definitionSize) flagged (pieces definitionSize (n .definitions) (t .definitions))
+      (pieces-whole definitionSize (n .definitions) (t .definitions) (b .in-definitions) (h .long .for-definitions)) (h .flags))
+
+  used-ranges : joined (map slotBytes (rangeSlots 0 (ranging (slotsIn t n) (numbersIn t n)))) ≡ take (rangeSlotSize * n .ranges) (t .ranges)
+  unfolding slotsIn
+  used-ranges =
+      ap (λ l. joined (map slotBytes l)) (ranges-are t n h .again-rows)
+      ∙ again rangeSlotSize slotBytes slotOf (whole rangeSlotSize) row-back (n .ranges) (t .ranges)
+      (pieces-whole rangeSlotSize (n .ranges) (t .ranges) (b .in-ranges) (h .long .for-ranges))
+
+  used-references : joined (map (le referenceSize) (numbersOf (ranging (slotsIn t n) (numbersIn t n)))) ≡ take (referenceSize * n .references) (t .references)
+  unfolding numbersIn
+  used-references =
+      ap (λ l. joined (map (le referenceSize) l)) (ranges-are t n h .again-numbers)
+      ∙ again referenceSize (le referenceSize) (num referenceSize 0) (whole referenceSize) number-back (n .references) (t .references)
+      (pieces-whole referenceSize (n .references) (t .references) (b .in-references) (h .long .for-references))
+
   rules-kept : Kept (decoded t n)
   unfolding decoded
   rules-kept =
       let k = h .long .limits in
-      let e = counts-are in
+      let e = counts-are t n h in
       record {
         within = within-from (decoded t n) n e k;
-        some-byte = some-names;
+        some-byte = some-names t n h;
         well = h .well;
         single = h .single;
         lengths = lengths-small (n .definitions) (t .definitions) (b .in-definitions);
         bounds = bounds-are;
-        known = subst (λ l. T (all (λ c. ltb c (length (namesIn t n))) l)) (sym (ranges-are .again-numbers))
+        known = subst (λ l. T (all (λ c. ltb c (length (namesIn t n))) l)) (sym (ranges-are t n h .again-numbers))
             (subst (λ m. T (all (λ c. ltb c m) (numbersIn t n))) (sym (names-count e)) (h .known));
       }
     where
       bounds-are : T (all (λ g. isBound (g .lower) && isBound (g .upper)) (ranging (slotsIn t n) (numbersIn t n)))
-      bounds-are = as-bounded (ranging (slotsIn t n) (numbersIn t n)) (ranges-are .in-bounds)
+      bounds-are = as-bounded (ranging (slotsIn t n) (numbersIn t n)) (ranges-are t n h .in-bounds)
 
       names-count : countsOf (decoded t n) ≡ n → length (namesIn t n) ≡ n .categories
       names-count e = count-names (decoded t n) n e
@@ -706,13 +718,13 @@ tables-is t a b c d e f g h i j = rw (f, g, h, i, j)
 laid : (t : Tables) (n : Counts) → OfBytes t → Parts t n → layout (decoded t n) ≡ used n t
 unfolding layout decoded used
 laid t n b h =
-    tables-is (used n t) _ _ _ _ _ (used-names t n b h) (used-categories t n b h) (used-definitions t n b h) (used-ranges t n b h) (used-references t n b h)
+    tables-is (used n t) _ _ _ _ _ (used-names t n h) (used-categories t n b h) (used-definitions t n b h) (used-ranges t n b h) (used-references t n b h)
 
 -- what is handed in
 pub handed-holds : (t : Tables) (n : Counts) → OfBytes t → T (holds t n) → HoldTogether t n (decoded t n)
 handed-holds t n b u =
     let h = parts t n u in
-    record { laid-out = laid t n b h; counted = counts-are t n b h; rules = kept (decoded t n) (rules-kept t n b h) }
+    record { laid-out = laid t n b h; counted = counts-are t n h; rules = kept (decoded t n) (rules-kept t n b h) }
 
 pub handed-back : (t : Tables) (n : Counts) (r : Reading) → OfBytes t → handedIn t n ≡ some r → HoldTogether t n r
 unfolding handedIn

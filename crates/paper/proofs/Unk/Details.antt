@@ -49,12 +49,12 @@ signed-length : (base top low : ℕ) (cs : List ℕ) (i : Integer) → SignedNum
 signed-length base top low cs (pos n) r = numeral-length r
 signed-length base top low cs (neg n) r = let e = ap length (r .whole) in omega arith
 
-stored-length : (e : Entry) → length (stored e) ≡ lengthBytes + length (e .details)
+pub stored-length : (e : Entry) → length (stored e) ≡ lengthBytes + length (e .details)
 unfolding stored
 stored-length e = omega arith
 
 -- an entry's details and their length take no more than its line
-entry-short : (cs : List ℕ) (e : Entry) → UnkLine cs e → length (stored e) ≤ length cs
+pub entry-short : (cs : List ℕ) (e : Entry) → UnkLine cs e → length (stored e) ≤ length cs
 entry-short cs e u =
     let a = numeral-length (u .left-read) in
     let b = numeral-length (u .right-read) in

@@ -1,0 +1,59 @@
+-- Demand 2's lookups: what the builders leave of a reading's tables is what the lookups' promises ask, and a text's tables are its reading's.
+-- Assumes nothing.
+use Prim.Native.Nat.{ℕ}
+use mathlib.Core.Path.{_≡_, refl, sym, ap, _∙_, subst}
+use mathlib.Core.List.{List, []}
+use mathlib.Core.Option.{some}
+use Rattle.paper.specs.CharDef.Reading.{Reading, Fits}
+use Rattle.paper.specs.Rows.Lookup as found
+use Rattle.paper.specs.Rows.Lookup.{LookupTables, AsBuilt}
+use Rattle.paper.specs.Tables.Layout.{Tables, countsOf}
+use Rattle.paper.specs.Computed.HandedIn.{handedIn}
+use Rattle.paper.specs.declared.Counts.{Counts}
+use Rattle.paper.specs.declared.Outcome.the-variants.{Accepted}
+use Rattle.row.proofs.Promise.{rows-left}
+use Rattle.flat.proofs.Promise.{flat-left}
+use Rattle.lookup.proofs.Promise as lookup
+use Rattle.demand.specs.Demand2.{FlatToo, no-flat, with-flat, BuiltOver, indexOf, flatOf, lookupTables, LooksUp, FindsByNumber}
+use Rattle.demand.specs.Demand3.{Run}
+use Rattle.demand.proofs.Demand3.{demand3}
+
+as-built : (q : Reading) (t : LookupTables) → AsBuilt q t → LooksUp q t
+as-built q t b =
+    record {
+      categories = λ c s. lookup.built-part q t b c s;
+      never-refused = λ c s. lookup.built-given q t b c s;
+      no-scalar = λ c n. lookup.no-place t c n;
+      packed-same = λ c s p h. lookup.packed-part q t b c s p h;
+    }
+
+-- over any tables that hold together
+pub looks-up : (t : Tables) (n : Counts) (q : Reading) → handedIn t n ≡ some q → (b : BuiltOver t n) → LooksUp q (lookupTables b)
+looks-up t n q e b = as-built q (lookupTables b) (go (b .flat))
+  where
+    go : (f : FlatToo t n)
+        → AsBuilt q (record { index = indexOf f; flat = flatOf f; boundaries = lookupTables b .boundaries; starts = lookupTables b .starts; lengths = lookupTables b .lengths; pool = lookupTables b .pool })
+    go no-flat = found.without-flat (rows-left (b .rows-built) q e [] []) refl
+    go (with-flat lent left places p) =
+        found.with-flat (rows-left (b .rows-built) q e (indexOf (with-flat lent left places p)) (left .pool))
+        (flat-left p q e (lookupTables b .boundaries) (lookupTables b .starts) (lookupTables b .lengths) (lookupTables b .pool))
+
+-- names and definitions by number over such tables
+pub finds-by-number : (t : Tables) (n : Counts) (q : Reading) → handedIn t n ≡ some q → FindsByNumber q t n
+finds-by-number t n q e =
+    record {
+      name-held = lookup.held-name t n q e;
+      name-unknown = lookup.name-none t n q e;
+      name-known = lookup.name-some t n q e;
+      defined = lookup.defined t n q e;
+    }
+
+-- END TO END: from the bytes of an accepted char.def through `parse`, the builders and `lookup_categories` to the covering rule over the one reading
+-- that fits those bytes
+pub from-text : (text : List ℕ) (run : Run text) (n : Counts) → run .outcome ≡ Accepted n → (b : BuiltOver (run .left) n)
+    → (q : Reading) × Fits text q × LooksUp q (lookupTables b) × FindsByNumber q (run .left) n
+from-text text run n a b =
+    let d = demand3 text run in
+    let (q, f, c) = d .accepted-exactly n .0 a in
+    let e : handedIn (run .left) n ≡ some q = subst (λ m. handedIn (run .left) m ≡ some q) (sym c) (d .in-the-tables q f) in
+    (q, f, looks-up (run .left) n q e b, finds-by-number (run .left) n q e)

@@ -1,0 +1,4 @@
+pub mod Window
+pub mod Copy
+pub mod Bridge
+pub mod Promise

@@ -1,0 +1,3 @@
+-- What a bit cursor promises.
+pub mod Bits
+pub mod Cursor

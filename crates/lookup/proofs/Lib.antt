@@ -1,0 +1,4 @@
+pub mod Tests
+pub mod Categories
+pub mod Numbers
+pub mod Promise

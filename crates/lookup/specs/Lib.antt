@@ -1,0 +1,4 @@
+-- What the functions of `lookup` promise.
+pub mod Categories
+pub mod Ways
+pub mod Numbers

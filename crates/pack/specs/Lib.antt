@@ -1,0 +1,3 @@
+-- What the pack's reader promises below `read_pack`.
+pub mod Parts
+pub mod Whole

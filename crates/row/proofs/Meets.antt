@@ -1,0 +1,239 @@
+-- Over tables that hold together, what total reads give is the paper's reading: its boundaries, the covering rule, and what the walk asks.
+-- Assumes nothing.
+use Prim.Native.Nat.{ℕ, zero, suc, _+_, _*_, _<_, _≤_}
+use native.Mathlib.Omega.{arith}
+use mathlib.Core.Path.{_≡_, refl, sym, ap, ap₂, _∙_, subst}
+use mathlib.Core.Bool.{Bool, true, false, cond}
+use mathlib.Core.List.{List, [], _∷_, _++_, map}
+use lib.Dec.{T, leb, ltb, eqb}
+use lib.ListN.{length, take, drop}
+use lib.Seq.{drop-drop}
+use mir.Facts.{and-yes, yes-and, leb-yes, ltb-yes, yes-ltb, eqb-yes}
+use Rattle.paper.specs.Sizes.{maxCategories, maxRanges}
+use Rattle.paper.specs.Lists.{all, select, joined, firstSeen}
+use Rattle.paper.specs.CharDef.Reading.{Range}
+use Rattle.paper.specs.Rows.Covering.{orElse, ascending, boundaries, rangeHolds, covers, named, defaults, categoriesAt, rows}
+use Rattle.paper.specs.Computed.HandedIn.{slotsStand, slotsIn, numbersIn, decoded, holds, enough, nameSlotsStand, nameSlotsIn, flagged}
+use Rattle.paper.specs.Pack.Rules.{isBound}
+use Rattle.paper.specs.Tables.Layout.{RangeSlot, slotOf, pieces, ranging, Tables, definitionSize, rangeSlotSize, referenceSize}
+use Rattle.paper.specs.Tables.Lent.{num, got}
+use Rattle.paper.specs.declared.Counts.{Counts}
+use Rattle.paper.proofs.Lists.Facts.{all-append, all-imp}
+use Rattle.paper.proofs.Pack.Trip.{bound-bits}
+use Rattle.paper.proofs.Tables.Laws.{got-in, num-part, all-take, all-drop}
+use Rattle.paper.proofs.Tables.Trip.{says}
+use Rattle.row.specs.Next.{noBoundary, endsOf}
+use Rattle.row.specs.Slots.{slotGot, slotsGot, numbersGot, slotHolds, coversGot}
+use Rattle.row.specs.Walked.{boundariesOf, rowOf, rowsOf, Readable}
+
+-- ---- entries
+
+field-got : (v k w i : ℕ) (l : List ℕ) → k + v ≤ w → w * i + w ≤ length l → got v (w * i + k) l ≡ num v k (take w (drop (w * i) l))
+field-got v k w i l h long = got-in v (w * i + k) l (omega arith) ∙ sym (num-part v k w (w * i) l h)
+
+first-got : (v w i : ℕ) (l : List ℕ) → v ≤ w → w * i + w ≤ length l → got v (w * i) l ≡ num v 0 (take w (drop (w * i) l))
+first-got v w i l h long = let e : w * i ≡ w * i + 0 = omega arith in ap (λ k. got v k l) e ∙ field-got v 0 w i l (omega arith) long
+
+slot-same : (a b c d a′ b′ c′ d′ : ℕ) → a ≡ a′ → b ≡ b′ → c ≡ c′ → d ≡ d′
+    → _≡_ {A = RangeSlot} (record { lower = a; upper = b; first = c; count = d }) (record { lower = a′; upper = b′; first = c′; count = d′ })
+slot-same a b c d a′ b′ c′ d′ p q r s = cc
+
+slot-got : (i : ℕ) (l : List ℕ) → rangeSlotSize * i + rangeSlotSize ≤ length l → slotGot i l ≡ slotOf (take rangeSlotSize (drop (rangeSlotSize * i) l))
+unfolding slotGot
+slot-got i l h =
+    slot-same _ _ _ _ _ _ _ _ (first-got 2 8 i l (omega arith) h) (field-got 2 2 8 i l (omega arith) h) (field-got 2 4 8 i l (omega arith) h)
+    (field-got 2 6 8 i l (omega arith) h)
+
+slots-got : (k i : ℕ) (l : List ℕ) → rangeSlotSize * (i + k) ≤ length l → slotsGot i k l ≡ map slotOf (pieces rangeSlotSize k (drop (rangeSlotSize * i) l))
+unfolding slotsGot pieces
+slots-got zero i l h = refl
+slots-got (suc k) i l h =
+    let e : 8 * i + 8 ≡ 8 * (i + 1) = omega arith in
+    ap₂ (λ x y. x ∷ y) (slot-got i l (omega arith))
+    (slots-got k (i + 1) l (omega arith) ∙ ap (λ m. map slotOf (pieces 8 k m)) (sym (drop-drop 8 (8 * i) l ∙ ap (λ m. drop m l) e)))
+
+numbers-got : (k i : ℕ) (l : List ℕ) → referenceSize * (i + k) ≤ length l
+    → numbersGot i k l ≡ map (num referenceSize 0) (pieces referenceSize k (drop (referenceSize * i) l))
+unfolding numbersGot pieces
+numbers-got zero i l h = refl
+numbers-got (suc k) i l h =
+    let e : 2 * i + 2 ≡ 2 * (i + 1) = omega arith in
+    ap₂ (λ x y. x ∷ y) (first-got 2 2 i l (omega arith) (omega arith))
+    (numbers-got k (i + 1) l (omega arith) ∙ ap (λ m. map (num 2 0) (pieces 2 k m)) (sym (drop-drop 2 (2 * i) l ∙ ap (λ m. drop m l) e)))
+
+-- the first n numbers of a table, and a part of them
+abbrev numbered : ℕ → List ℕ → List ℕ
+numbered n l = map (num referenceSize 0) (pieces referenceSize n l)
+
+numbers-part : (n k i : ℕ) (l : List ℕ) → i + k ≤ n → take k (drop i (numbered n l)) ≡ numbered k (drop (referenceSize * i) l)
+unfolding pieces
+numbers-part n zero zero l h = refl
+numbers-part zero (suc k) zero l h = absurd (omega arith)
+numbers-part (suc n) (suc k) zero l h = ap (λ m. num 2 0 (take 2 l) ∷ m) (numbers-part n k zero (drop 2 l) (omega arith))
+numbers-part zero zero (suc i) l h = absurd (omega arith)
+numbers-part zero (suc k) (suc i) l h = absurd (omega arith)
+numbers-part (suc n) zero (suc i) l h = refl
+numbers-part (suc n) (suc k) (suc i) l h =
+    let e : 2 + 2 * i ≡ 2 * suc i = omega arith in
+    numbers-part n (suc k) i (drop 2 l) (omega arith) ∙ ap (numbered (suc k)) (drop-drop (2 * i) 2 l ∙ ap (λ m. drop m l) e)
+
+-- ---- ranges
+
+ends-same : (rs : List RangeSlot) (ns : List ℕ) → endsOf rs ≡ joined (map (λ (g : Range). g .lower ∷ (g .upper + 1) ∷ []) (ranging rs ns))
+unfolding ranging
+ends-same [] ns = refl
+ends-same (r ∷ rs) ns = ap (λ m. r .lower ∷ (r .upper + 1) ∷ m) (ends-same rs (drop (r .count) ns))
+
+-- slots that stand one behind another: the first stands at `at`, with allowed bounds and within the total, and so the rest
+record Stands (total at : ℕ) (r : RangeSlot) (rs : List RangeSlot) : Type 0 where
+  here : r .first ≡ at
+  low : r .lower < noBoundary
+  high : r .upper + 1 < noBoundary
+  within : at + r .count ≤ total
+  more : T (slotsStand total (at + r .count) rs)
+
+stands : (total at : ℕ) (r : RangeSlot) (rs : List RangeSlot) → T (slotsStand total at (r ∷ rs)) → Stands total at r rs
+unfolding slotsStand
+stands total at r rs t =
+    let a = and-yes (eqb (r .first) at) _ t in
+    let b = and-yes (isBound (r .lower)) _ (a .1) in
+    let c = and-yes (isBound (r .upper)) _ (b .1) in
+    let d = and-yes (leb (at + r .count) total) _ (c .1) in
+    let x = bound-bits (r .lower) (b .0) in
+    let y = bound-bits (r .upper) (c .0) in
+    record { here = eqb-yes (a .0); low = omega arith; high = omega arith; within = leb-yes (d .0); more = d .1 }
+
+ends-fit : (total at : ℕ) (rs : List RangeSlot) → T (slotsStand total at rs) → T (all (λ x. ltb x noBoundary) (endsOf rs))
+ends-fit total at [] t = tt
+ends-fit total at (r ∷ rs) t =
+    let s = stands total at r rs t in
+    yes-and (ltb (r .lower) noBoundary) _ (yes-ltb (s .low))
+    (yes-and (ltb (r .upper + 1) noBoundary) _ (yes-ltb (s .high)) (ends-fit total (at + r .count) rs (s .more)))
+
+-- a slot's range with the categories ns, and the categories of the ranges that hold c
+abbrev rangeOf : RangeSlot → List ℕ → Range
+rangeOf r ns = record { lower = r .lower; upper = r .upper; categories = ns }
+
+abbrev categories : List Range → List ℕ
+categories gs = joined (map (λ g. g .categories) gs)
+
+abbrev held : ℕ → List Range → List ℕ
+held c gs = categories (select (rangeHolds c) gs)
+
+covers-same : (c total at : ℕ) (rs : List RangeSlot) (l : List ℕ) → referenceSize * total ≤ length l → T (slotsStand total at rs)
+    → coversGot c rs l ≡ held c (ranging rs (drop at (numbered total l)))
+unfolding coversGot ranging
+covers-same c total at [] l h t = refl
+covers-same c total at (r ∷ rs) l h t = go (slotHolds c r) (covers-same c total (at + r .count) rs l h (s .more) ∙ ap (λ m. held c (ranging rs m)) (sym on))
+  where
+    s : Stands total at r rs
+    s = stands total at r rs t
+
+    here : numbersGot (r .first) (r .count) l ≡ take (r .count) (drop at (numbered total l))
+    here =
+        let k : at + r .count ≤ total = s .within in
+        ap (λ i. numbersGot i (r .count) l) (s .here) ∙ numbers-got (r .count) at l (omega arith) ∙ sym (numbers-part total (r .count) at l k)
+
+    on : drop (r .count) (drop at (numbered total l)) ≡ drop (at + r .count) (numbered total l)
+    on = drop-drop (r .count) at (numbered total l)
+
+    go : (z : Bool) → coversGot c rs l ≡ held c (ranging rs (drop (r .count) (drop at (numbered total l))))
+        → cond z (numbersGot (r .first) (r .count) l) [] ++ coversGot c rs l
+        ≡ categories
+        (cond z
+        (rangeOf r (take (r .count) (drop at (numbered total l))) ∷ select (rangeHolds c) (ranging rs (drop (r .count) (drop at (numbered total l)))))
+        (select (rangeHolds c) (ranging rs (drop (r .count) (drop at (numbered total l))))))
+    go true ih = ap₂ (λ x y. x ++ y) here ih
+    go false ih = ih
+
+held-all : (p : ℕ → Bool) (c : ℕ) (rs : List RangeSlot) (ns : List ℕ) → T (all p ns) → T (all p (held c (ranging rs ns)))
+unfolding ranging
+held-all p c [] ns t = tt
+held-all p c (r ∷ rs) ns t = go (slotHolds c r) (held-all p c rs (drop (r .count) ns) (all-drop p (r .count) ns t))
+  where
+    go : (z : Bool) → T (all p (held c (ranging rs (drop (r .count) ns))))
+        → T (all p (categories (cond z (rangeOf r (take (r .count) ns) ∷ select (rangeHolds c) (ranging rs (drop (r .count) ns)))
+        (select (rangeHolds c) (ranging rs (drop (r .count) ns))))))
+    go true ih = all-append p (take (r .count) ns) _ (all-take p (r .count) ns t) ih
+    go false ih = ih
+
+-- ---- tables that hold together
+
+record Parts (t : Tables) (n : Counts) : Type 0 where
+  few-categories : n .categories ≤ maxCategories
+  few-ranges : n .ranges ≤ maxRanges
+  in-ranges : rangeSlotSize * n .ranges ≤ length (t .ranges)
+  in-references : referenceSize * n .references ≤ length (t .references)
+  stand : T (slotsStand (n .references) 0 (slotsIn t n))
+  known : T (all (λ c. ltb c (n .categories)) (numbersIn t n))
+
+parts : (t : Tables) (n : Counts) → T (holds t n) → Parts t n
+unfolding holds
+parts t n h =
+    let h1 = and-yes (enough (length (t .names)) (length (t .categories)) (length (t .definitions)) (length (t .ranges)) (length (t .references)) n) _ h in
+    let h2 = and-yes (nameSlotsStand (n .bytes) 0 (nameSlotsIn t n)) _ (h1 .1) in
+    let h3 = and-yes (all flagged (pieces definitionSize (n .definitions) (t .definitions))) _ (h2 .1) in
+    let h4 = and-yes (slotsStand (n .references) 0 (slotsIn t n)) _ (h3 .1) in
+    let h5 = and-yes (all (λ c. ltb c (n .categories)) (numbersIn t n)) _ (h4 .1) in
+    let e = says _ _ _ _ _ n (h1 .0) in
+    record {
+      few-categories = e .limits .0;
+      few-ranges = e .limits .1 .1 .1 .0;
+      in-ranges = e .for-ranges;
+      in-references = e .for-references;
+      stand = h4 .0;
+      known = h5 .0;
+    }
+
+module _ (t : Tables) (n : Counts) (h : T (holds t n)) where
+  q : Parts t n
+  q = parts t n h
+
+  slots-are : slotsGot 0 (n .ranges) (t .ranges) ≡ slotsIn t n
+  unfolding slotsIn
+  slots-are =
+      let k : rangeSlotSize * n .ranges ≤ length (t .ranges) = q .in-ranges in
+      slots-got (n .ranges) 0 (t .ranges) (omega arith)
+
+  covers-are : (c : ℕ) → coversGot c (slotsGot 0 (n .ranges) (t .ranges)) (t .references) ≡ covers (decoded t n) c
+  unfolding decoded numbersIn
+  covers-are c =
+      ap (λ rs. coversGot c rs (t .references)) slots-are
+      ∙ covers-same c (n .references) 0 (slotsIn t n) (t .references) (q .in-references) (q .stand)
+
+  -- few categories, as the stamps ask
+  pub few-names : n .categories ≤ maxCategories
+  few-names = q .few-categories
+
+  pub readable : Readable (t .ranges) (t .references) (n .ranges)
+  unfolding decoded numbersIn
+  readable =
+      record {
+        few = q .few-ranges;
+        fits = subst (λ rs. T (all (λ x. ltb x noBoundary) (endsOf rs))) (sym slots-are) (ends-fit (n .references) 0 (slotsIn t n) (q .stand));
+        known = λ c. subst (λ l. T (all (λ x. ltb x maxCategories) l)) (sym (covers-are c))
+            (held-all (λ x. ltb x maxCategories) c (slotsIn t n) (numbersIn t n)
+            (all-imp (λ x. ltb x (n .categories)) (λ x. ltb x maxCategories) wider (numbersIn t n) (q .known)));
+      }
+    where
+      wider : (x : ℕ) → T (ltb x (n .categories)) → T (ltb x maxCategories)
+      wider x u =
+          let a : x < n .categories = ltb-yes u in
+          let b : n .categories ≤ maxCategories = q .few-categories in
+          yes-ltb {a = x} {b = maxCategories} (omega arith)
+
+  pub boundaries-met : boundariesOf (slotsGot 0 (n .ranges) (t .ranges)) ≡ boundaries (decoded t n)
+  unfolding decoded boundariesOf boundaries
+  boundaries-met = ap (λ rs. ascending (0 ∷ endsOf rs)) slots-are ∙ ap (λ l. ascending (0 ∷ l)) (ends-same (slotsIn t n) (numbersIn t n))
+
+  pub row-met : (c : ℕ) → rowOf (defaults (decoded t n)) (slotsGot 0 (n .ranges) (t .ranges)) (t .references) c ≡ categoriesAt (decoded t n) c
+  unfolding rowOf categoriesAt named
+  row-met c = ap (λ l. orElse (firstSeen eqb l) (defaults (decoded t n))) (covers-are c)
+
+  pub rows-met : rowsOf (defaults (decoded t n)) (slotsGot 0 (n .ranges) (t .ranges)) (t .references) ≡ rows (decoded t n)
+  unfolding rowsOf rows
+  rows-met = each (boundariesOf (slotsGot 0 (n .ranges) (t .ranges))) ∙ ap (map (categoriesAt (decoded t n))) boundaries-met
+    where
+      each : (bs : List ℕ) → map (rowOf (defaults (decoded t n)) (slotsGot 0 (n .ranges) (t .ranges)) (t .references)) bs ≡ map (categoriesAt (decoded t n)) bs
+      each [] = refl
+      each (b ∷ bs) = ap₂ (λ x y. x ∷ y) (row-met b) (each bs)

@@ -1,0 +1,146 @@
+-- `unk::parse_unk` meets its contract: each way through is an answer of `Whole`; the parts that are lent have the sizes. Assumes nothing.
+use native.Mathlib.Omega.{arith}
+use denote.Ref.{now}
+use Rattle.paper.specs.Sizes.{maxDetailBytes}
+use Rattle.paper.specs.Tables.Layout.{Tables}
+use Rattle.unk.specs.declared.Judged.the-variants.{Sound, Unsound}
+use Rattle.unk.specs.Layout.{UnkTables}
+use Rattle.unk.specs.Parse.{entriesSize, offsetsSize, placesSize, membersSize}
+use Rattle.unk.proofs.Room.{lacking, having, roomy, part-long, parts-sized}
+use Rattle.unk.proofs.Whole.{few-categories, judged-as, short-room, unsound, lines-parsed}
+use borrow.Author.Needs.{needs}
+use Rattle.unk.proofs.parse_unk.Statement.{statement}
+use Rattle.unk.proofs.parse_unk.Tie as tie
+
+has-room-requires : tie.Need-has-room-requires
+has-room-requires c κs = search needs
+
+returns : tie.Need-returns
+returns c = let a = (c .before .before .before .before .before .before .before .before .before .before .before .before .before .args) in
+    let t : Tables = record { names = now (a .names); categories = now (a .categories); definitions = now (a .definitions); ranges = now (a .ranges); references = now (a .references) } in
+    let l : UnkTables = record { entries = now (a .entries); offsets = now (a .offsets); details = now (a .details); places = now (a .places); members = now (a .members) } in
+    short-room t (a .counts) (now (a .text)) l (lacking l ((c .before .has-room .ensures)) ((c .if1 .taken)))
+
+judge-requires : tie.Need-judge-requires
+judge-requires c κs = search needs
+
+enum-known-refusal : tie.Need-enum-known-refusal
+enum-known-refusal c = search needs
+
+enum-told : tie.Need-enum-told
+enum-told c = search needs
+
+slice-relend-prefix-read-lines : tie.Need-slice-relend-prefix-read-lines
+slice-relend-prefix-read-lines c = let a = (c .before .before .before .before .before .before .before .before .before .before .before .before .before .before .before .before .args) in
+    let l : UnkTables = record { entries = now (a .entries); offsets = now (a .offsets); details = now (a .details); places = now (a .places); members = now (a .members) } in
+    roomy l ((c .before .before .before .before .has-room .ensures)) ((c .before .before .before .if1 .left)) .for-entries
+
+slice-aggregate-read-lines : tie.Need-slice-aggregate-read-lines
+slice-aggregate-read-lines c = let a = (c .before .before .before .before .before .before .before .before .before .before .before .before .before .before .before .before .before .args) in
+    let l : UnkTables = record { entries = now (a .entries); offsets = now (a .offsets); details = now (a .details); places = now (a .places); members = now (a .members) } in
+    part-long entriesSize (l .entries) (roomy l ((c .before .before .before .before .before .has-room .ensures)) ((c .before .before .before .before .if1 .left)) .for-entries)
+
+slice-relend-prefix-read-lines-2 : tie.Need-slice-relend-prefix-read-lines-2
+slice-relend-prefix-read-lines-2 c = let a = (c .before .before .before .before .before .before .before .before .before .before .before .before .before .before .before .before .before .args) in
+    let l : UnkTables = record { entries = now (a .entries); offsets = now (a .offsets); details = now (a .details); places = now (a .places); members = now (a .members) } in
+    roomy l ((c .before .before .before .before .before .has-room .ensures)) ((c .before .before .before .before .if1 .left)) .for-offsets
+
+slice-aggregate-read-lines-2 : tie.Need-slice-aggregate-read-lines-2
+slice-aggregate-read-lines-2 c = let a = (c .before .before .before .before .before .before .before .before .before .before .before .before .before .before .before .before .before .before .args) in
+    let l : UnkTables = record { entries = now (a .entries); offsets = now (a .offsets); details = now (a .details); places = now (a .places); members = now (a .members) } in
+    part-long offsetsSize (l .offsets) (roomy l ((c .before .before .before .before .before .before .has-room .ensures)) ((c .before .before .before .before .before .if1 .left)) .for-offsets)
+
+slice-relend-prefix-read-lines-3 : tie.Need-slice-relend-prefix-read-lines-3
+slice-relend-prefix-read-lines-3 c = let a = (c .before .before .before .before .before .before .before .before .before .before .before .before .before .before .before .before .before .before .args) in
+    let l : UnkTables = record { entries = now (a .entries); offsets = now (a .offsets); details = now (a .details); places = now (a .places); members = now (a .members) } in
+    roomy l ((c .before .before .before .before .before .before .has-room .ensures)) ((c .before .before .before .before .before .if1 .left)) .for-details
+
+slice-aggregate-read-lines-3 : tie.Need-slice-aggregate-read-lines-3
+slice-aggregate-read-lines-3 c = let a = (c .before .before .before .before .before .before .before .before .before .before .before .before .before .before .before .before .before .before .before .args) in
+    let l : UnkTables = record { entries = now (a .entries); offsets = now (a .offsets); details = now (a .details); places = now (a .places); members = now (a .members) } in
+    part-long maxDetailBytes (l .details) (roomy l ((c .before .before .before .before .before .before .before .has-room .ensures)) ((c .before .before .before .before .before .before .if1 .left)) .for-details)
+
+slice-relend-prefix-read-lines-4 : tie.Need-slice-relend-prefix-read-lines-4
+slice-relend-prefix-read-lines-4 c = let a = (c .before .before .before .before .before .before .before .before .before .before .before .before .before .before .before .before .before .before .before .args) in
+    let l : UnkTables = record { entries = now (a .entries); offsets = now (a .offsets); details = now (a .details); places = now (a .places); members = now (a .members) } in
+    roomy l ((c .before .before .before .before .before .before .before .has-room .ensures)) ((c .before .before .before .before .before .before .if1 .left)) .for-places
+
+slice-aggregate-read-lines-4 : tie.Need-slice-aggregate-read-lines-4
+slice-aggregate-read-lines-4 c = let a = (c .before .before .before .before .before .before .before .before .before .before .before .before .before .before .before .before .before .before .before .before .args) in
+    let l : UnkTables = record { entries = now (a .entries); offsets = now (a .offsets); details = now (a .details); places = now (a .places); members = now (a .members) } in
+    part-long placesSize (l .places) (roomy l ((c .before .before .before .before .before .before .before .before .has-room .ensures)) ((c .before .before .before .before .before .before .before .if1 .left)) .for-places)
+
+slice-relend-prefix-read-lines-5 : tie.Need-slice-relend-prefix-read-lines-5
+slice-relend-prefix-read-lines-5 c = let a = (c .before .before .before .before .before .before .before .before .before .before .before .before .before .before .before .before .before .before .before .before .args) in
+    let l : UnkTables = record { entries = now (a .entries); offsets = now (a .offsets); details = now (a .details); places = now (a .places); members = now (a .members) } in
+    roomy l ((c .before .before .before .before .before .before .before .before .has-room .ensures)) ((c .before .before .before .before .before .before .before .if1 .left)) .for-members
+
+slice-aggregate-read-lines-5 : tie.Need-slice-aggregate-read-lines-5
+slice-aggregate-read-lines-5 c = let a = (c .before .before .before .before .before .before .before .before .before .before .before .before .before .before .before .before .before .before .before .before .before .args) in
+    let l : UnkTables = record { entries = now (a .entries); offsets = now (a .offsets); details = now (a .details); places = now (a .places); members = now (a .members) } in
+    part-long membersSize (l .members) (roomy l ((c .before .before .before .before .before .before .before .before .before .has-room .ensures)) ((c .before .before .before .before .before .before .before .before .if1 .left)) .for-members)
+
+read-lines-requires : tie.Need-read-lines-requires
+read-lines-requires c κs = let a = (c .before .before .before .before .before .before .before .before .before .before .before .before .before .before .before .before .before .before .before .before .before .args) in
+    let t : Tables = record { names = now (a .names); categories = now (a .categories); definitions = now (a .definitions); ranges = now (a .ranges); references = now (a .references) } in
+    let l : UnkTables = record { entries = now (a .entries); offsets = now (a .offsets); details = now (a .details); places = now (a .places); members = now (a .members) } in
+    let s = judged-as t (a .counts) (now (a .text)) Sound ((c .before .before .before .before .before .enum-told .given .1)) ((c .before .before .before .before .before .before .before .judge .ensures)) in
+    ((s .short, few-categories t (a .counts) (s .holding)), parts-sized l (roomy l ((c .before .before .before .before .before .before .before .before .before .has-room .ensures)) ((c .before .before .before .before .before .before .before .before .if1 .left))))
+
+returns-2 : tie.Need-returns-2
+returns-2 c = let a = (c .before .before .before .before .before .before .before .before .before .before .before .before .before .before .before .before .before .args) in
+    let t : Tables = record { names = now (a .names); categories = now (a .categories); definitions = now (a .definitions); ranges = now (a .ranges); references = now (a .references) } in
+    let l : UnkTables = record { entries = now (a .entries); offsets = now (a .offsets); details = now (a .details); places = now (a .places); members = now (a .members) } in
+    unsound t (a .counts) (now (a .text)) l (having l ((c .before .before .before .before .before .has-room .ensures)) ((c .before .before .before .before .if1 .left))) _ _ (judged-as t (a .counts) (now (a .text)) (Unsound ((c .before .refusal .given .0 .0))) ((c .before .refusal .given .1)) ((c .before .before .before .judge .ensures)))
+
+same-length : tie.Need-same-length
+same-length c = search needs
+
+same-length-2 : tie.Need-same-length-2
+same-length-2 c = search needs
+
+same-length-3 : tie.Need-same-length-3
+same-length-3 c = search needs
+
+same-length-4 : tie.Need-same-length-4
+same-length-4 c = search needs
+
+same-length-5 : tie.Need-same-length-5
+same-length-5 c = search needs
+
+returns-3 : tie.Need-returns-3
+returns-3 c = let a = (c .before .before .before .before .before .before .before .before .before .before .before .before .before .before .before .before .before .before .before .before .before .before .before .before .before .before .before .before .before .before .before .before .args) in
+    let t : Tables = record { names = now (a .names); categories = now (a .categories); definitions = now (a .definitions); ranges = now (a .ranges); references = now (a .references) } in
+    let l : UnkTables = record { entries = now (a .entries); offsets = now (a .offsets); details = now (a .details); places = now (a .places); members = now (a .members) } in
+    let s = judged-as t (a .counts) (now (a .text)) Sound ((c .before .before .before .before .before .before .before .before .before .before .before .before .before .before .before .before .enum-told .given .1)) ((c .before .before .before .before .before .before .before .before .before .before .before .before .before .before .before .before .before .before .judge .ensures)) in
+    let p = (c .before .before .before .before .before .before .before .before .before .before .read-lines .last) in
+    lines-parsed t (a .counts) (now (a .text)) l (having l ((c .before .before .before .before .before .before .before .before .before .before .before .before .before .before .before .before .before .before .before .before .has-room .ensures)) ((c .before .before .before .before .before .before .before .before .before .before .before .before .before .before .before .before .before .before .before .if1 .left))) s (record { entries = p .1 .1 .1 .1 .0; offsets = p .1 .1 .1 .1 .1 .0; details = p .1 .1 .1 .1 .1 .1 .0; places = p .1 .1 .1 .1 .1 .1 .1 .0; members = p .1 .1 .1 .1 .1 .1 .1 .1 .0 })
+    _ ((c .before .before .before .before .before .before .before .before .before .before .read-lines .ensures))
+
+pub parse-unk-spec : {M : Type 1} → statement M
+parse-unk-spec =
+    tie.close
+    (tie.spec
+    has-room-requires
+    returns
+    judge-requires
+    enum-known-refusal
+    enum-told
+    slice-relend-prefix-read-lines
+    slice-aggregate-read-lines
+    slice-relend-prefix-read-lines-2
+    slice-aggregate-read-lines-2
+    slice-relend-prefix-read-lines-3
+    slice-aggregate-read-lines-3
+    slice-relend-prefix-read-lines-4
+    slice-aggregate-read-lines-4
+    slice-relend-prefix-read-lines-5
+    slice-aggregate-read-lines-5
+    read-lines-requires
+    returns-2
+    same-length
+    same-length-2
+    same-length-3
+    same-length-4
+    same-length-5
+    returns-3)
