@@ -4,6 +4,7 @@ use Prim.Native.Nat.{ℕ}
 use mathlib.Core.Path.{_≡_}
 use mathlib.Core.List.{List}
 use Rattle.paper.specs.CharDef.Reading.{Reading, Answer, accepted}
+use Rattle.paper.specs.Computed.ReadPack.{readPack}
 use Rattle.paper.specs.Computed.ReadText.{readText}
 use Rattle.paper.specs.Pack.Rules.{PackRules}
 use Rattle.paper.specs.Tables.Layout.{Tables}
@@ -11,6 +12,7 @@ use Rattle.paper.specs.Tables.Reader.{Reads}
 use Rattle.paper.specs.declared.Outcome.{Outcome}
 use Rattle.paper.proofs.CharDef.Accepts.{accepts}
 use Rattle.paper.proofs.Pack.Kept.{fits-rules}
+use Rattle.paper.proofs.Pack.Trip.{pack-is}
 use Rattle.room.proofs.Promise as promise
 use Rattle.char_def.specs.Parse.{Parsed}
 use Rattle.demand.specs.Demand1.{Finished}
@@ -26,3 +28,6 @@ finished a rules lent left r p =
 
 pub char-def-finished : (text : List ℕ) (lent left : Tables) (r : Outcome) → Parsed text lent left r → Finished (readText text) lent left r
 char-def-finished text = finished (readText text) (λ q e. fits-rules text q (accepts text q .0 e))
+
+pub pack-finished : (pack : List ℕ) (lent left : Tables) (r : Outcome) → Reads (readPack pack) lent left r → Finished (readPack pack) lent left r
+pack-finished pack = finished (readPack pack) (λ q e. pack-is pack q e .rules)

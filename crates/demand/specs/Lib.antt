@@ -2,4 +2,5 @@
 pub mod Demand1
 pub mod Demand2
 pub mod Packs
+pub mod Unk
 pub mod Demand3

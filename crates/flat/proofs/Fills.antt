@@ -2,19 +2,19 @@
 -- there, gives the pool. Here for boundaries and rows of any origin, then over the slots of two tables. Idea: from a boundary up to the next one the
 -- row is the one whose number the walk has come to.
 -- Assumes nothing.
-use Prim.Native.Nat.{ℕ, zero, suc, _+_, _*_, _-_, _≤_, _<_}
+use Prim.Native.Nat.{ℕ, zero, suc, _+_, _-_, _≤_, _<_}
 use native.Mathlib.Nat.{le-of-suc-le-suc, not-suc-le-zero}
 use native.Mathlib.Numerals.{add-one}
 use native.Mathlib.Omega.{arith}
 use native.Mathlib.Decide.{decLe}
 use mathlib.Core.Path.{_≡_, refl, sym, ap, ap₂, _∙_, subst}
 use mathlib.Core.Bool.{Bool, true, false, cond}
-use mathlib.Core.List.{List, [], _∷_, _++_, map}
+use mathlib.Core.List.{List, [], _∷_, map}
 use lib.Dec.{T, leb, ltb}
-use lib.ListN.{length, getD, drop, take, length-drop, length-map}
-use lib.Seq.{sets, length-sets, getD-drop, drop-drop, drop-cons}
+use lib.ListN.{length, getD, drop, length-drop, length-map}
+use lib.Seq.{sets, length-sets, getD-drop, drop-drop}
 use Rattle.paper.specs.Sizes.{maxCategories, maxRowPlaces, bmpSize}
-use Rattle.paper.specs.Lists.{all, joined, sum}
+use Rattle.paper.specs.Lists.{all, joined}
 use Rattle.paper.specs.Rows.Covering.{orElse}
 use Rattle.paper.specs.Rows.Flat.{RowFound, entryOf, offsetOf}
 use Rattle.paper.proofs.Lists.Facts.{joined-length}
@@ -24,7 +24,7 @@ use Rattle.paper.proofs.Rows.Flat.{part-inside}
 use Rattle.row.specs.Next.{noBoundary, endsOf, boundaryAfter}
 use Rattle.row.specs.Slots.{slotsGot, coversGot}
 use Rattle.row.specs.Stamps.{stamped, Rowed}
-use Rattle.row.specs.Walked.{boundariesOf, rowOf, rowsOf, Readable, Clean}
+use Rattle.row.specs.Walked.{boundariesOf, rowOf, rowsOf, Clean}
 use Rattle.row.proofs.Walk.{onward}
 use Rattle.row.proofs.Notes.{length-stamps, sets-append}
 use Rattle.row.proofs.FirstSeen.{stamps-old}

@@ -1,26 +1,26 @@
 -- What the walk made is what `build_flat_table` promises; two outcomes that the promise allows coincide; and what it leaves is what lookups ask of
 -- tables as built. Idea: at each code point the entry of the row that is found is the paper's flat entry.
 -- Assumes nothing.
-use Prim.Native.Nat.{ℕ, zero, suc, _+_, _≤_, _<_}
+use Prim.Native.Nat.{ℕ, suc, _+_, _≤_, _<_}
 use native.Mathlib.Omega.{arith}
 use mathlib.Core.Path.{_≡_, refl, sym, ap, ap₂, _∙_, subst}
-use mathlib.Core.Bool.{Bool, true, false, not, cond, _||_}
-use mathlib.Core.List.{List, [], _∷_, _++_, map}
-use mathlib.Core.Option.{Option, none, some}
+use mathlib.Core.Bool.{Bool, true, false, cond, _||_}
+use mathlib.Core.List.{List, [], _∷_, _++_}
+use mathlib.Core.Option.{none, some}
 use lib.Dec.{T, ltb}
-use lib.ListN.{length, getD, take, drop, length-take}
-use lib.Seq.{sets, sets-eq, take-at, ext-getD, length-take-le}
+use lib.ListN.{length, getD, take, drop}
+use lib.Seq.{ext-getD, length-take-le}
 use mir.Facts.{yes-and, yes-ltb}
-use borrow.Author.Tests.{lt-ltb, le-ltb, ltb-true, ltb-false}
-use Rattle.paper.specs.Sizes.{bmpSize, maxFlatRow, maxRowPlaces}
+use borrow.Author.Tests.{lt-ltb, le-ltb}
+use Rattle.paper.specs.Sizes.{bmpSize, maxFlatRow}
 use Rattle.paper.specs.Refusals.{flatRowLong, tableRoomShort, tablesApart}
-use Rattle.paper.specs.Lists.{all, any, joined, sum}
+use Rattle.paper.specs.Lists.{all, any, joined}
 use Rattle.paper.specs.Numbers.Bytes.{isByte}
 use Rattle.paper.specs.CharDef.Reading.{Reading}
 use Rattle.paper.specs.Rows.Covering.{default, boundaries, rows}
 use Rattle.paper.specs.Rows.Flat.{rowNumber, flatEntry, flatIndex, flatPool}
 use Rattle.paper.specs.Rows.Build.{built, refusedBy, placesNeeded, rowOverlong, flatRoomShort, flatBuilt}
-use Rattle.paper.specs.Rows.Lookup.{LookupTables, FlatLeft}
+use Rattle.paper.specs.Rows.Lookup.{FlatLeft}
 use Rattle.paper.specs.Rows.Numbers.{findName}
 use Rattle.paper.specs.Tables.Layout.{Tables}
 use Rattle.paper.specs.Tables.HandedIn.{HoldTogether, OfBytes}
@@ -35,49 +35,17 @@ use Rattle.paper.proofs.Tables.Trip.{handed-holds}
 use Rattle.row.specs.Built.{ahead}
 use Rattle.row.specs.Slots.{slotsGot}
 use Rattle.row.specs.Fallback.{foundRow}
-use Rattle.row.specs.Walked.{boundariesOf, rowsOf, larger, longestOf, NeedIs}
+use Rattle.row.specs.Walked.{boundariesOf, rowsOf, longestOf, NeedIs}
 use Rattle.row.specs.declared.Need.{Need}
 use Rattle.row.proofs.Default.{fallback-met}
 use Rattle.row.proofs.Meets.{readable, boundaries-met, rows-met}
+use Rattle.row.proofs.Promise.{set-ahead, starts-ahead, or-no, longest-any}
 use Rattle.flat.specs.Built.{FlatRoom, answerTo, given, filled, leaves, BuildsFlat}
 use Rattle.flat.specs.Walked.{Buildable, FlatFilled, Builds, BuildsOf}
 use Rattle.flat.specs.declared.Built.{Built}
 use Rattle.flat.specs.declared.Built.the-variants.{Flat, Refused}
 
--- ---- 16: the longest row is over k exactly where some row is
-
-or-none : (a : Bool) → a ≡ (a || false)
-or-none true = refl
-or-none false = refl
-
-or-assoc : (a b c : Bool) → ((a || b) || c) ≡ (a || (b || c))
-or-assoc true b c = refl
-or-assoc false b c = refl
-
-larger-over : (k a b : ℕ) → ltb k (larger a b) ≡ (ltb k a || ltb k b)
-larger-over k a b = go (ltb a b) refl (ltb k a) refl
-  where
-    go : (x : Bool) → ltb a b ≡ x → (y : Bool) → ltb k a ≡ y → ltb k (cond x b a) ≡ (y || ltb k b)
-    go true e true f = let p = ltb-true a b e in let q = ltb-true k a f in lt-ltb k b (omega arith)
-    go true e false f = refl
-    go false e true f = f
-    go false e false f = let p = ltb-false a b e in let q = ltb-false k a f in f ∙ sym (le-ltb k b (omega arith))
-
-longest-over : (k m : ℕ) (ws : List (List ℕ)) → ltb k (longestOf m ws) ≡ (ltb k m || any (λ w. ltb k (length w)) ws)
-longest-over k m [] = or-none (ltb k m)
-longest-over k m (w ∷ ws) =
-    longest-over k (larger m (length w)) ws
-    ∙ ap (λ b. b || any (λ w. ltb k (length w)) ws) (larger-over k m (length w))
-    ∙ or-assoc (ltb k m) (ltb k (length w)) _
-
 -- ---- the index and the pool
-
--- what is set from the front stands there, and what lay behind it stays
-set-ahead : (x l : List ℕ) → length x ≤ length l → sets l 0 x ≡ ahead x l
-set-ahead x l h = let e : 0 + length x ≡ length x = omega arith in sets-eq x l 0 (omega arith) ∙ ap (λ k. x ++ drop k l) e
-
-starts-ahead : (x l : List ℕ) → take (length x) (ahead x l) ≡ x
-starts-ahead x l = take-at x (drop (length x) l) (length x) refl
 
 module _ (r : Reading) (lent : FlatRoom) (n : ℕ) (whole : n ≡ bmpSize) (long : n ≤ length (lent .index)) (index pool : List ℕ)
     (f : FlatFilled (boundaries r) (rows r) (record { index = take n (lent .index); pool = lent .pool }) (record { index = index; pool = pool })) where
@@ -109,7 +77,8 @@ module _ (bs : List ℕ) (ws : List (List ℕ)) (lent : FlatRoom) (n : Need) (is
   module _ (r : Reading) (eb : bs ≡ boundaries r) (ew : ws ≡ rows r) where
     overlong-is : rowOverlong r ≡ ltb maxFlatRow (n .longest)
     unfolding rowOverlong
-    overlong-is = sym (ap (ltb maxFlatRow) (is .is-longest ∙ ap (longestOf 0) ew) ∙ longest-over maxFlatRow 0 (rows r))
+    overlong-is =
+        sym (ap (ltb maxFlatRow) (is .is-longest ∙ ap (longestOf 0) ew) ∙ longest-any maxFlatRow 0 (rows r) ∙ or-no (any (λ w. ltb maxFlatRow (length w)) (rows r)))
 
     places-are : n .places ≡ placesNeeded r
     unfolding placesNeeded

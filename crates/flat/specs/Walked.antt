@@ -9,13 +9,13 @@ use mathlib.Core.Option.{some}
 use lib.Dec.{ltb}
 use lib.ListN.{length, getD}
 use lib.Seq.{sets}
-use Rattle.paper.specs.Sizes.{bmpSize, maxRowPlaces}
+use Rattle.paper.specs.Sizes.{maxRowPlaces}
 use Rattle.paper.specs.Lists.{joined}
 use Rattle.paper.specs.CharDef.Reading.{Reading}
 use Rattle.paper.specs.Rows.Covering.{boundaries, rows}
 use Rattle.paper.specs.Rows.Flat.{RowFound, entryOf, offsetOf}
 use Rattle.row.specs.Slots.{slotsGot}
-use Rattle.row.specs.Walked.{rowsOf, Readable, Clean}
+use Rattle.row.specs.Walked.{rowsOf, Readable}
 use Rattle.flat.specs.declared.Built.{Built}
 use Rattle.flat.specs.Built.{FlatRoom, answerTo, given, leaves}
 

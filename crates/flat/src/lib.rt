@@ -11,7 +11,7 @@ use row::NO_BOUNDARY;
 ghost use mathlib.Core.Path.{_≡_};
 ghost use Prim.Native.Nat.{_+_, _*_, _≤_};
 ghost use lib.ListN.{length};
-ghost use Rattle.paper.specs.Sizes.{bmpSize, maxRowPlaces, maxCategories};
+ghost use Rattle.paper.specs.Sizes.{bmpSize, maxRowPlaces};
 ghost use Rattle.paper.specs.Rows.Flat.{entryOf};
 ghost use Rattle.row.specs.Slots.{slotsGot};
 ghost use Rattle.row.specs.Fallback.{fallbackRow};

@@ -7,15 +7,16 @@ use native.Mathlib.Omega.{arith}
 use mathlib.Core.Path.{_≡_, refl, sym, ap, _∙_, subst}
 use mathlib.Core.Bool.{Bool, true, false, not, cond, _&&_, _||_}
 use mathlib.Core.List.{List, [], _∷_}
-use lib.Dec.{T, leb, ltb, eqb}
+use lib.Dec.{T, ltb}
 use lib.ListN.{length, getD, take, drop}
 use borrow.Author.Tests.{lt-ltb, le-ltb, ltb-false, le-leb, lt-leb, eq-eqb, ne-eqb, not-true, not-false}
 use Rattle.paper.specs.Sizes.{bmpSize}
 use Rattle.paper.specs.Refusals.{notScalar, tablesApart}
 use Rattle.paper.specs.Lists.{empty}
 use Rattle.paper.specs.Text.Scalar.{isScalar}
-use Rattle.paper.specs.Rows.Flat.{RowFound, entryOffset, entryLength}
-use Rattle.paper.specs.Rows.Lookup.{Looked, gives, refuses, LookupTables, Pool, ofFlat, ofRows, Part, content, usesFlat, flatPart, rowPart, indexOdd, fromZero, rowMissing, pastPool, apart, lookup, Looks}
+use Rattle.paper.specs.Rows.Flat.{entryOffset, entryLength}
+use Rattle.paper.specs.Rows.Lookup.{Looked, gives, refuses, LookupTables, Pool, ofFlat, ofRows, Part, content, usesFlat, flatPart, rowPart}
+use Rattle.paper.specs.Rows.Lookup.{indexOdd, fromZero, rowMissing, pastPool, apart, lookup}
 use Rattle.paper.specs.declared.Refusal.{Refusal}
 use Rattle.paper.proofs.Apart.{zero-one, refuses-gives}
 use Rattle.paper.proofs.Rows.Lookup.{looks-some}

@@ -12,15 +12,14 @@ use lib.Seq.{getD-take, getD-drop}
 use borrow.Author.Tests.{le-leb, lt-leb, lt-ltb, le-ltb, ltb-false}
 use Rattle.paper.specs.Refusals.{numberUnknown, tablesApart}
 use Rattle.paper.specs.Rows.Lookup.{Looked, gives, refuses}
-use Rattle.paper.specs.Rows.Numbers.{nameIn, pastStore, entryAt, lookupDefinition, categoryName}
-use Rattle.paper.specs.Tables.Layout.{NameSlot, nameSlotOf, definitionOf, nameSlotSize, definitionSize, nameLenAt, invokeAt, groupAt}
+use Rattle.paper.specs.Rows.Numbers.{pastStore, entryAt, lookupDefinition, categoryName}
+use Rattle.paper.specs.Tables.Layout.{NameSlot, nameSlotOf, nameSlotSize, definitionSize, nameLenAt, invokeAt, groupAt}
 use Rattle.paper.specs.Tables.Lent.{got, num}
 use Rattle.paper.proofs.Apart.{zero-one}
 use Rattle.paper.proofs.Tables.Laws.{got-in, num-part}
 use Rattle.lookup.specs.declared.DefinitionFound.the-variants as definition-found
 use Rattle.paper.specs.declared.Refusal.{Refusal}
 use Rattle.lookup.specs.declared.Span.{Span}
-use Rattle.lookup.specs.declared.NameFound.{NameFound}
 use Rattle.lookup.specs.declared.NameFound.the-variants as name-found
 use Rattle.lookup.specs.Numbers.{definition, name, nameHeld}
 
@@ -77,7 +76,8 @@ module _ (store l : List ℕ) (count k : ℕ) where
       slot-is : nameSlotOf (entryAt nameSlotSize l k) ≡ record { start = start; len = len }
       slot-is =
           let long : nameSlotSize * k + nameSlotSize ≤ length l = omega arith in
-          sym (ap₂ (λ a b. record { start = a; len = b }) (es ∙ first-at nameSlotSize k l long 2 (omega arith)) (el ∙ number-at nameSlotSize k l long 2 nameLenAt (omega arith)))
+          sym (ap₂ (λ a b. record { start = a; len = b }) (es ∙ first-at nameSlotSize k l long 2 (omega arith))
+          (el ∙ number-at nameSlotSize k l long 2 nameLenAt (omega arith)))
 
       pub name-past : length store < start + len → name-found.Refused (record { number = tablesApart; place = 0 }) ≡ name (categoryName store l count k)
       unfolding categoryName

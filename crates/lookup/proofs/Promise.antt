@@ -18,7 +18,8 @@ use Rattle.paper.specs.Text.Scalar.{isScalar, IsScalar}
 use Rattle.paper.specs.CharDef.Reading.{Reading}
 use Rattle.paper.specs.Rows.Covering.{rising, categoriesAt}
 use Rattle.paper.specs.Rows.Flat.{entryOffset, entryLength, flatEntry}
-use Rattle.paper.specs.Rows.Lookup.{Looked, gives, refuses, LookupTables, Pool, ofFlat, ofRows, Part, content, usesFlat, apart, lookup, Looks, packedAt, GivesPart, FlatLeft, AsBuilt, without-flat, with-flat}
+use Rattle.paper.specs.Rows.Lookup.{Looked, gives, refuses, LookupTables, Pool, ofFlat, ofRows, Part, content, usesFlat, apart, lookup, Looks, packedAt}
+use Rattle.paper.specs.Rows.Lookup.{GivesPart, FlatLeft, AsBuilt, without-flat, with-flat}
 use Rattle.paper.specs.Rows.Numbers.{numberOf, definitionAt, nameAt, lookupDefinition, categoryName, nameOf}
 use Rattle.paper.specs.Tables.Layout.{NameSlot, Tables}
 use Rattle.paper.specs.Computed.HandedIn.{handedIn}
@@ -31,7 +32,7 @@ use Rattle.paper.proofs.Rows.AsBuilt.{looked-up, packed-there}
 use Rattle.paper.proofs.Rows.Numbers.{number-name, number-definition}
 use Rattle.lookup.specs.declared.Span.{Span}
 use Rattle.lookup.specs.declared.Located.{Located}
-use Rattle.lookup.specs.declared.Located.the-variants.{InFlat, InRows, Refused}
+use Rattle.lookup.specs.declared.Located.the-variants.{InFlat, Refused}
 use Rattle.lookup.specs.declared.Packed.{Packed}
 use Rattle.lookup.specs.declared.PackedFound.the-variants as packed-found
 use Rattle.lookup.specs.declared.CategoryAt.the-variants as category-found

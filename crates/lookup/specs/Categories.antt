@@ -10,11 +10,10 @@ use lib.Dec.{ltb}
 use lib.ListN.{length, getD, take, drop}
 use Rattle.paper.specs.Refusals.{tablesApart}
 use Rattle.paper.specs.Rows.Flat.{entryOffset, entryLength}
-use Rattle.paper.specs.Rows.Lookup.{Looked, gives, refuses, LookupTables, Pool, ofFlat, ofRows, Part, content, Looks, packedAt}
+use Rattle.paper.specs.Rows.Lookup.{Looked, gives, refuses, LookupTables, Pool, ofFlat, ofRows, Part, content, Looks}
 use Rattle.lookup.specs.declared.Span.{Span}
 use Rattle.lookup.specs.declared.Located.{Located}
 use Rattle.lookup.specs.declared.Located.the-variants.{InFlat, InRows, Refused}
-use Rattle.lookup.specs.declared.Packed.{Packed}
 use Rattle.lookup.specs.declared.PackedFound.{PackedFound}
 use Rattle.lookup.specs.declared.PackedFound.the-variants as packed-found
 use Rattle.lookup.specs.declared.CategoryAt.{CategoryAt}

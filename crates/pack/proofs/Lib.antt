@@ -7,3 +7,4 @@ pub mod Names
 pub mod Naming
 pub mod Padding
 pub mod Body
+pub mod Promise

@@ -1,13 +1,13 @@
 -- The low bits of numbers: of a shifted number with a field behind it, and of what is left of a number above a place.
 -- Assumes nothing.
 use Prim.Native.Nat.{ℕ, zero, suc, _+_, _*_, _-_, _/_, _%_, _^_, _≤_, _<_}
-use native.Mathlib.Nat.{zero-add, suc-add, add-comm, mod-lt, one-mul}
+use native.Mathlib.Nat.{zero-add, suc-add, add-comm, mod-lt}
 use native.Mathlib.Omega.{arith}
 use mathlib.Core.Path.{_≡_, refl, sym, ap, ap₂, _∙_}
 use mathlib.Core.List.{_∷_, _++_}
-use lib.Dec.{lit<}
-use lib.Bits.{bitAnd, bitOr, and-mask, or-shifted}
+use lib.Bits.{bitAnd, bitOr, or-shifted}
 use lib.Pow.{pow-pos, shr-shr, shl-exact, field, mod-mod-pow, high, low}
+use Rattle.field.proofs.Window.{masked}
 use Rattle.paper.specs.Pack.Fields.{bits}
 
 -- the bits from a place on, and those below it
@@ -38,15 +38,6 @@ bits-behind a b m v =
     (sym (bits-mod b b (m * 2 ^ b + v % 2 ^ b) (omega arith)) ∙ ap (bits b) (low m b small) ∙ bits-mod b b v (omega arith))
 
 -- ---- as the code makes it
-
-one-up : (w : ℕ) → w ≤ 32 → (1 * 2 ^ w) % 2 ^ 64 ≡ 2 ^ w
-one-up w h = shl-exact 1 w 64 (lit< tt) (omega arith) ∙ one-mul (2 ^ w)
-
-pub mask-is : (w : ℕ) → w ≤ 32 → 1 ≤ (1 * 2 ^ w) % 2 ^ 64
-mask-is w h = rw (one-up w h) (pow-pos w)
-
-masked : (x w : ℕ) → w ≤ 32 → bitAnd x ((1 * 2 ^ w) % 2 ^ 64 - 1) ≡ x % 2 ^ w
-masked x w h = ap (λ y. bitAnd x (y - 1)) (one-up w h) ∙ and-mask x w
 
 -- a byte, shifted, and the low bits of a value
 pub joined-up : (x m v w : ℕ) → x ≡ m → m < 256 → w ≤ 32 → bitOr ((x * 2 ^ w) % 2 ^ 64) (bitAnd v ((1 * 2 ^ w) % 2 ^ 64 - 1)) ≡ m * 2 ^ w + v % 2 ^ w

@@ -86,7 +86,7 @@ mark (Refused x) = x .number
 apart : (a b : Written) → mark a < mark b → a ≡ b → ⊥
 apart a b h e = let d : mark a ≡ mark b = ap mark e in omega arith
 
--- a reading stands in the tables, and the room is as long as its pack; or it is shorter
+-- a reading stands in the tables, and the room is long enough for its pack, of k bytes; or it is shorter
 pub record Enough (t : Tables) (n : Counts) (lent : List ℕ) (k : ℕ) : Type 0 where
   pub reading : Reading
   pub stands : HoldTogether t n reading
@@ -98,14 +98,14 @@ pub record Short (t : Tables) (n : Counts) (lent : List ℕ) : Type 0 where
   pub stands : HoldTogether t n reading
   pub room : length lent < length (packBytes reading)
 
--- one of the three, and its memory
-data Answered (t : Tables) (n : Counts) (lent after : List ℕ) (r : Written) : Type 0 where
+-- one of the three
+pub data Answered (t : Tables) (n : Counts) (lent after : List ℕ) (r : Written) : Type 0 where
   is-written : (k : ℕ) → Enough t n lent k → r ≡ Length k → Answered t n lent after r
   is-short : Short t n lent → r ≡ roomRefused → after ≡ lent → Answered t n lent after r
   is-apart : ((q : Reading) → HoldTogether t n q → ⊥) → r ≡ apartRefused → after ≡ lent → Answered t n lent after r
 
 module _ {t : Tables} {n : Counts} {lent after : List ℕ} {r : Written} (b : OfBytes t) (p : WritesPack t n lent after r) where
-  answered : Answered t n lent after r
+  pub answered : Answered t n lent after r
   answered = go (handedIn t n) refl
     where
       by-room : (q : Reading) → HoldTogether t n q → (x : Bool) → ltb (length lent) (length (packBytes q)) ≡ x → Answered t n lent after r
@@ -153,7 +153,7 @@ module _ {t : Tables} {n : Counts} {lent after : List ℕ} {r : Written} (b : Of
       from (is-short w e m) f = absurd (f (w .reading) (w .stands))
       from (is-apart w e m) f = e
 
-  -- no other number is given, and a refusal leaves lent memory unchanged
+  -- a refusal leaves lent memory unchanged
   pub refused-unchanged : (x : Refusal) → r ≡ Refused x → after ≡ lent
   refused-unchanged x d = to answered
     where

@@ -52,8 +52,8 @@ pack-whole q pad {n} {v} {lent} {a} {after} {w} {r} x y e d =
     let none : r .waiting ≡ 0 = omega arith in
     let z : Writes lent start (packFields q ++ (field pad v ∷ [])) after r = puts-both x y .writes in
     let spelt : packBits q ++ bits pad 0 ≡ bitsOf (z .whole) =
-    ap (λ k. packBits q ++ bits pad k) (sym d) ∙ ap (λ l. packBits q ++ l) (sym (append-nil (bits pad v))) ∙ sym (spell-append (packFields q) (field pad v ∷ [])) ∙ z .spelt
-    ∙ ap (λ l. bitsOf (z .whole) ++ l) (none-wait r none) ∙ append-nil (bitsOf (z .whole)) in
+    ap (λ k. packBits q ++ bits pad k) (sym d) ∙ ap (λ l. packBits q ++ l) (sym (append-nil (bits pad v)))
+    ∙ sym (spell-append (packFields q) (field pad v ∷ [])) ∙ z .spelt ∙ ap (λ l. bitsOf (z .whole) ++ l) (none-wait r none) ∙ append-nil (bitsOf (z .whole)) in
     let is : packBytes q ≡ z .whole = whole-is (packBits q) pad (z .whole) few (z .are-bytes) spelt in
     let on : r .at ≡ length (z .whole) = let o = z .on in omega arith in
     z .memory ∙ ap (λ k. z .whole ++ drop k lent) on ∙ ap (λ l. l ++ drop (length l) lent) (sym is)

@@ -1,4 +1,16 @@
 // Writes the pack: "The pack", the writer. Fields go out one behind another, most significant bit first.
+use field::BOUND_WIDTH;
+use field::BYTE_WIDTH;
+use field::CATEGORIES_WIDTH;
+use field::COUNT_WIDTH;
+use field::FLAG_WIDTH;
+use field::LENGTH_WIDTH;
+use field::LINES_WIDTH;
+use field::NAME_LENGTH_WIDTH;
+use field::NUMBER_WIDTH;
+use field::RANGES_WIDTH;
+use field::REFERENCES_WIDTH;
+use field::VERSION_WIDTH;
 use paper::Counts;
 use paper::PACK_ROOM_SHORT;
 use paper::Refusal;
@@ -24,32 +36,7 @@ ghost use Rattle.paper.specs.Computed.HandedIn.{decoded, holds};
 ghost use Rattle.packer.specs.Writer.{Room, Puts, lengthsIn, countsIn, numbersFrom, allNumbers, headOf, packWidth, packLength, Limited, start};
 ghost use Rattle.packer.specs.Write.{WritesPack};
 
-// The widths of fields in bits, as `Pack.Fields` has them.
-const VERSION_WIDTH: usize = 8;
-
-const CATEGORIES_WIDTH: usize = 10;
-
-const LINES_WIDTH: usize = 10;
-
-const RANGES_WIDTH: usize = 12;
-
-const REFERENCES_WIDTH: usize = 14;
-
-const NAME_LENGTH_WIDTH: usize = 15;
-
-const BYTE_WIDTH: usize = 8;
-
-const FLAG_WIDTH: usize = 1;
-
-const LENGTH_WIDTH: usize = 32;
-
-const BOUND_WIDTH: usize = 16;
-
-const COUNT_WIDTH: usize = 14;
-
-const NUMBER_WIDTH: usize = 9;
-
-// Of the head, of a definition, and of a range without its references.
+// The widths in bits of the head, of a definition, and of a range without its references.
 const HEAD_WIDTH: usize = VERSION_WIDTH
     + CATEGORIES_WIDTH
     + LINES_WIDTH

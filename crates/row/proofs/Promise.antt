@@ -65,7 +65,7 @@ unfolding placesNeeded
 places-exact r = sym (joined-length (rows r))
 
 -- what is set from the front stands there, and what lay behind it stays
-set-ahead : (x l : List ℕ) → length x ≤ length l → sets l 0 x ≡ ahead x l
+pub set-ahead : (x l : List ℕ) → length x ≤ length l → sets l 0 x ≡ ahead x l
 set-ahead x l h = let e : 0 + length x ≡ length x = omega arith in sets-eq x l 0 (omega arith) ∙ ap (λ k. x ++ drop k l) e
 
 room-same : (lent : RowRoom) (a b c d : List ℕ) → lent .boundaries ≡ a → lent .starts ≡ b → lent .lengths ≡ c → lent .pool ≡ d
@@ -205,7 +205,7 @@ abbrev pub lookupOver : (index flat : List ℕ) → ℕ → RowRoom → LookupTa
 lookupOver index flat count x =
     record { index = index; flat = flat; boundaries = take count (x .boundaries); starts = x .starts; lengths = x .lengths; pool = x .pool }
 
-starts-ahead : (x l : List ℕ) → take (length x) (ahead x l) ≡ x
+pub starts-ahead : (x l : List ℕ) → take (length x) (ahead x l) ≡ x
 starts-ahead x l = take-at x (drop (length x) l) (length x) refl
 
 rows-left-filled : (r : Reading) (lent : RowRoom) (index flat : List ℕ)
@@ -235,7 +235,7 @@ rows-left {t} {n} {lent} {after} {k} p r e index flat = go (shortage r lent) ref
 
 -- ---- the need over tables that hold together, for those who walk the rows again: 16 by the longest row
 
-or-no : (b : Bool) → (b || false) ≡ b
+pub or-no : (b : Bool) → (b || false) ≡ b
 or-no true = refl
 or-no false = refl
 
@@ -258,7 +258,7 @@ longer m k l = go (ltb k l) refl
         by true f h = let g : m < l = ltb-true m l f in lt-ltb m k (omega arith)
         by false f h = refl
 
-longest-any : (m k : ℕ) (ws : List (List ℕ)) → ltb m (longestOf k ws) ≡ (any (λ w. ltb m (length w)) ws || ltb m k)
+pub longest-any : (m k : ℕ) (ws : List (List ℕ)) → ltb m (longestOf k ws) ≡ (any (λ w. ltb m (length w)) ws || ltb m k)
 longest-any m k [] = refl
 longest-any m k (w ∷ ws) =
     longest-any m (larger k (length w)) ws ∙ ap (λ b. any (λ w. ltb m (length w)) ws || b) (longer m k (length w))

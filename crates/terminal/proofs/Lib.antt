@@ -1,4 +1,5 @@
 -- The laws of the exported entries.
 pub mod Clears
 pub mod Whole
+pub mod PackPlaces
 pub mod Places

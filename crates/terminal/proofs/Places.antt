@@ -1,4 +1,4 @@
--- Counts have 16 bits and places 32: a line's number is no more than the text is long, and a reading keeps the limits.
+-- Counts have 16 bits and places 32: a line's number is no more than the text is long, a pack's place lies in its fields, and a reading keeps the limits.
 -- Assumes nothing.
 use Prim.Native.Nat.{ℕ, suc, _+_, _≤_, _<_}
 use native.Mathlib.Omega.{arith}
@@ -11,12 +11,16 @@ use Rattle.paper.specs.Lists.{cut, push}
 use Rattle.paper.specs.CharDef.Reading.{Reading, Answer, accepted, refused, Within, isLF}
 use Rattle.paper.specs.CharDef.Bad.{BadText, too-long, ill-formed, bad-line}
 use Rattle.paper.specs.Computed.ReadText.{readText}
+use Rattle.paper.specs.Computed.ReadPack.{readPack}
 use Rattle.paper.specs.Tables.Layout.{Tables, countsOf}
 use Rattle.paper.specs.Tables.Reader.{hasRoom, inLent, given, Reads}
 use Rattle.paper.specs.declared.Outcome.{Outcome}
 use Rattle.paper.proofs.CharDef.Accepts.{accepts}
 use Rattle.paper.proofs.CharDef.Answers.{refused-text}
+use Rattle.paper.proofs.Pack.Broken.{refused-exactly}
+use Rattle.paper.proofs.Pack.Trip.{pack-is}
 use Rattle.terminal.specs.Room.{Exportable}
+use Rattle.terminal.proofs.PackPlaces.{broken-near}
 
 -- an answer that has room
 abbrev pub Small : Answer → Type 0
@@ -59,3 +63,12 @@ text-small text = go (readText text) refl
     go : (a : Answer) → readText text ≡ a → Small a
     go (accepted q) e = accepts text q .0 e .within
     go (refused n p) e = place n p (refused-text text n p .0 e)
+
+-- ---- packs
+
+pub pack-small : (pack : List ℕ) → Small (readPack pack)
+pack-small pack = go (readPack pack) refl
+  where
+    go : (a : Answer) → readPack pack ≡ a → Small a
+    go (accepted q) e = pack-is pack q e .rules .limits
+    go (refused n p) e = broken-near (refused-exactly pack n p .0 e)

@@ -7,6 +7,7 @@ ghost use mathlib.Core.Path.{_≡_};
 ghost use mathlib.Core.Bool.{cond};
 ghost use Prim.Native.Nat.{_≤_};
 ghost use lib.ListN.{length};
+ghost use Rattle.paper.specs.Computed.ReadPack.{readPack};
 ghost use Rattle.paper.specs.Computed.ReadText.{readText};
 ghost use Rattle.paper.specs.Tables.Reader.{clears};
 ghost use Rattle.paper.specs.Tables.Lent.{patch, zeroed};
@@ -118,5 +119,25 @@ pub extern "C" fn twinebeetle_read_char_def(
         return ROOM_SHORT as u64;
     }
     let outcome = char_def::parse(text, names, categories, definitions, ranges, references);
+    give(outcome, counts)
+}
+
+// A pack read into lent tables: "the terminal's C loader calls the pack reader".
+#[no_mangle]
+pub extern "C" fn twinebeetle_read_pack(
+    pack: &[u8],
+    names: &mut [u8],
+    categories: &mut [u8],
+    definitions: &mut [u8],
+    ranges: &mut [u8],
+    references: &mut [u8],
+    counts: &mut [u8],
+) -> u64
+    ensures { λ r. ⌜ Exports (readPack (now (pack .entry))) (record { names = now (names .entry); categories = now (categories .entry); definitions = now (definitions .entry); ranges = now (ranges .entry); references = now (references .entry) }) (record { names = now (names .exit); categories = now (categories .exit); definitions = now (definitions .exit); ranges = now (ranges .exit); references = now (references .exit) }) (now (counts .entry)) (now (counts .exit)) r ⌝ }
+{
+    if counts.len() < COUNTS_SIZE {
+        return ROOM_SHORT as u64;
+    }
+    let outcome = pack::read_pack(pack, names, categories, definitions, ranges, references);
     give(outcome, counts)
 }

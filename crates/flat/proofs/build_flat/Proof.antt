@@ -16,17 +16,20 @@ rows-need-requires c κs = search needs
 
 returns : tie.Need-returns
 returns c =
-    let lent : FlatRoom = record { index = now (c .before .before .before .before .before .before .args .index); pool = now (c .before .before .before .before .before .before .args .pool) } in
+    let a = (c .before .before .before .before .before .before .args) in
+    let lent : FlatRoom = record { index = now (a .index); pool = now (a .pool) } in
     flat-overlong _ _ lent _ (c .before .rows-need .ensures) (omega arith)
 
 returns-2 : tie.Need-returns-2
 returns-2 c =
-    let lent : FlatRoom = record { index = now (c .before .before .before .before .before .before .before .args .index); pool = now (c .before .before .before .before .before .before .before .args .pool) } in
+    let a = (c .before .before .before .before .before .before .before .args) in
+    let lent : FlatRoom = record { index = now (a .index); pool = now (a .pool) } in
     index-short _ _ lent _ (c .before .before .rows-need .ensures) (omega arith) (omega arith)
 
 returns-3 : tie.Need-returns-3
 returns-3 c =
-    let lent : FlatRoom = record { index = now (c .before .before .before .before .before .before .before .before .args .index); pool = now (c .before .before .before .before .before .before .before .before .args .pool) } in
+    let a = (c .before .before .before .before .before .before .before .before .args) in
+    let lent : FlatRoom = record { index = now (a .index); pool = now (a .pool) } in
     pool-short _ _ lent _ (c .before .before .before .rows-need .ensures) (omega arith) (omega arith) (omega arith)
 
 slice-relend-prefix-fill-fresh : tie.Need-slice-relend-prefix-fill-fresh
@@ -36,7 +39,9 @@ slice-aggregate-fill-fresh : tie.Need-slice-aggregate-fill-fresh
 slice-aggregate-fill-fresh c = sym (length-take-le _ (c .before .before .before .before .before .before .before .before .before .args .index .now) (omega arith))
 
 fill-fresh-requires : tie.Need-fill-fresh-requires
-fill-fresh-requires c κs = ((c .before .before .before .before .before .before .before .before .before .before .pre), short bmpSize (c .before .before .before .before .before .before .before .before .before .before .args .index .now))
+fill-fresh-requires c κs =
+    let a = (c .before .before .before .before .before .before .before .before .before .before .args) in
+    ((c .before .before .before .before .before .before .before .before .before .before .pre), short bmpSize (a .index .now))
 
 same-length : tie.Need-same-length
 same-length c = search needs
@@ -46,8 +51,13 @@ same-length-2 c = search needs
 
 returns-4 : tie.Need-returns-4
 returns-4 c =
-    let lent : FlatRoom = record { index = now (c .before .before .before .before .before .before .before .before .before .before .before .before .before .before .before .args .index); pool = now (c .before .before .before .before .before .before .before .before .before .before .before .before .before .before .before .args .pool) } in
-    flat-made _ _ lent _ (c .before .before .before .before .before .before .before .before .before .before .rows-need .ensures) (c .before .before .before .before .before .before .before .before .before .if1 .left) (c .before .before .before .before .before .before .before .before .if2 .left) (c .before .before .before .before .before .before .before .if3 .left) _ refl _ _ (c .before .before .before .before .fill-fresh .ensures)
+    let a = (c .before .before .before .before .before .before .before .before .before .before .before .before .before .before .before .args) in
+    let lent : FlatRoom = record { index = now (a .index); pool = now (a .pool) } in
+    let short = (c .before .before .before .before .before .before .before .before .before .if1 .left) in
+    let long = (c .before .before .before .before .before .before .before .before .if2 .left) in
+    let enough = (c .before .before .before .before .before .before .before .if3 .left) in
+    flat-made _ _ lent _ (c .before .before .before .before .before .before .before .before .before .before .rows-need .ensures) short long enough _ refl _ _
+    (c .before .before .before .before .fill-fresh .ensures)
 
 pub build-flat-spec : {M : Type 1} → statement M
 build-flat-spec =

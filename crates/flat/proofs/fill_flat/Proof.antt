@@ -29,7 +29,7 @@ covering-requires : tie.Need-covering-requires Inv-loop μ-loop
 covering-requires c κs = omega (arith, (c .before .before .before .before .before .before .before .before .before .pre .0 .readable .few))
 
 next-boundary-requires : tie.Need-next-boundary-requires Inv-loop μ-loop
-next-boundary-requires c κs = (c .before .before .before .before .before .before .before .before .before .before .before .before .before .before .pre .0 .readable .few)
+next-boundary-requires c κs = omega (arith, (c .before .before .before .before .before .before .before .before .before .before .before .before .before .before .pre .0 .readable .few))
 
 cast-spread : tie.Need-cast-spread Inv-loop μ-loop
 cast-spread c = omega arith
@@ -38,10 +38,22 @@ cast-spread-2 : tie.Need-cast-spread-2 Inv-loop μ-loop
 cast-spread-2 c = omega arith
 
 sub-entry-of : tie.Need-sub-entry-of Inv-loop μ-loop
-sub-entry-of c = omega (arith, row-fits _ _ _ _ (c .before .before .before .before .before .before .before .before .before .before .before .before .before .before .before .before .pre .0) _ _ _ _ _ _ _ (c .before .before .before .before .before .before .before .before .before .before .loop .inv .0) (c .before .before .before .before .before .before .before .before .before .loop-test .taken) _ _ _ (c .before .before .before .before .before .before .covering .ensures) _ (c .before .next-boundary .ensures))
+sub-entry-of c =
+    let far = c .before .before .before .before .before .before .before .before .before .before in
+    let p = far .before .before .before .before .before .before .pre .0 in
+    let l = (c .before .before .before .before .before .before .before .before .before .before .loop .inv .0) in
+    let f = row-fits _ _ _ _ p _ _ _ _ _ _ _ l (c .before .before .before .before .before .before .before .before .before .loop-test .taken) _ _ _
+    (c .before .before .before .before .before .before .covering .ensures) _ (c .before .next-boundary .ensures) in
+    omega (arith, f)
 
 entry-of-requires : tie.Need-entry-of-requires Inv-loop μ-loop
-entry-of-requires c κs = omega (arith, row-fits _ _ _ _ (c .before .before .before .before .before .before .before .before .before .before .before .before .before .before .before .before .pre .0) _ _ _ _ _ _ _ (c .before .before .before .before .before .before .before .before .before .before .loop .inv .0) (c .before .before .before .before .before .before .before .before .before .loop-test .taken) _ _ _ (c .before .before .before .before .before .before .covering .ensures) _ (c .before .next-boundary .ensures))
+entry-of-requires c κs =
+    let far = c .before .before .before .before .before .before .before .before .before .before in
+    let p = far .before .before .before .before .before .before .pre .0 in
+    let l = (c .before .before .before .before .before .before .before .before .before .before .loop .inv .0) in
+    let f = row-fits _ _ _ _ p _ _ _ _ _ _ _ l (c .before .before .before .before .before .before .before .before .before .loop-test .taken) _ _ _
+    (c .before .before .before .before .before .before .covering .ensures) _ (c .before .next-boundary .ensures) in
+    omega (arith, f)
 
 spread-requires : tie.Need-spread-requires Inv-loop μ-loop
 spread-requires c κs = tt
@@ -50,10 +62,29 @@ add-rows : tie.Need-add-rows Inv-loop μ-loop
 add-rows c = omega arith
 
 loop-less : tie.Need-loop-less Inv-loop μ-loop
-loop-less c = omega (arith, next-rises _ _ _ _ (c .before .before .before .before .before .before .before .before .before .before .before .before .before .before .before .before .before .before .before .before .pre .0) _ _ _ _ _ _ _ (c .before .before .before .before .before .before .before .before .before .before .before .before .before .before .loop .inv .0) (c .before .before .before .before .before .before .before .before .before .before .before .before .before .loop-test .taken) _ (c .before .before .before .before .before .next-boundary .ensures))
+loop-less c =
+    let far = c .before .before .before .before .before .before .before .before .before .before in
+    let p = far .before .before .before .before .before .before .before .before .before .before .pre .0 in
+    let l = (c .before .before .before .before .before .before .before .before .before .before .before .before .before .before .loop .inv .0) in
+    omega (
+      arith,
+      next-rises _ _ _ _ p _ _ _ _ _ _ _ l
+          (c .before .before .before .before .before .before .before .before .before .before .before .before .before .loop-test .taken) _
+          (c .before .before .before .before .before .next-boundary .ensures),
+    )
 
 loop-again : tie.Need-loop-again Inv-loop μ-loop
-loop-again c = (walk-turn _ _ _ _ (c .before .before .before .before .before .before .before .before .before .before .before .before .before .before .before .before .before .before .before .before .pre .0) _ _ _ _ _ _ _ (c .before .before .before .before .before .before .before .before .before .before .before .before .before .before .loop .inv .0) (c .before .before .before .before .before .before .before .before .before .before .before .before .before .loop-test .taken) _ _ _ (c .before .before .before .before .before .before .before .before .before .before .covering .ensures) _ (c .before .before .before .before .before .next-boundary .ensures) _ _ (c .before .before .before .entry-of .ensures) (c .before .before .spread .ensures), row-fits _ _ _ _ (c .before .before .before .before .before .before .before .before .before .before .before .before .before .before .before .before .before .before .before .before .pre .0) _ _ _ _ _ _ _ (c .before .before .before .before .before .before .before .before .before .before .before .before .before .before .loop .inv .0) (c .before .before .before .before .before .before .before .before .before .before .before .before .before .loop-test .taken) _ _ _ (c .before .before .before .before .before .before .before .before .before .before .covering .ensures) _ (c .before .before .before .before .before .next-boundary .ensures) .1)
+loop-again c =
+    let far = c .before .before .before .before .before .before .before .before .before .before in
+    let p = far .before .before .before .before .before .before .before .before .before .before .pre .0 in
+    let l = (c .before .before .before .before .before .before .before .before .before .before .before .before .before .before .loop .inv .0) in
+    let r = (c .before .before .before .before .before .before .before .before .before .before .covering .ensures) in
+    let n = (c .before .before .before .before .before .next-boundary .ensures) in
+    let t = (c .before .before .before .before .before .before .before .before .before .before .before .before .before .loop-test .taken) in (
+      walk-turn _ _ _ _ p _ _ _ _ _ _ _ l t _ _ _ r _ n _ _ (c .before .before .before .entry-of .ensures) (c .before .before .spread .ensures),
+      row-fits _ _ _ _ p _
+          _ _ _ _ _ _ l t _ _ _ r _ n .1,
+    )
 
 same-length : tie.Need-same-length Inv-loop μ-loop
 same-length c = (c .before .loop .inv .0 .long-seen)
@@ -65,7 +96,9 @@ same-length-3 : tie.Need-same-length-3 Inv-loop μ-loop
 same-length-3 c = (c .before .loop .inv .0 .long-pool)
 
 returns : tie.Need-returns Inv-loop μ-loop
-returns c = walk-done _ _ _ _ (c .before .before .before .before .before .before .before .pre .0) _ _ _ _ _ _ _ (c .before .loop .inv .0) (omega arith) (c .before .before .before .before .before .before .before .pre .1 .1)
+returns c =
+    let p = (c .before .before .before .before .before .before .before .pre) in
+    walk-done _ _ _ _ (p .0) _ _ _ _ _ _ _ (c .before .loop .inv .0) (omega arith) (p .1 .1)
 
 pub fill-flat-spec : {M : Type 1} → statement M
 fill-flat-spec =

@@ -20,10 +20,22 @@ loop-holds : tie.Need-loop-holds Inv-loop μ-loop
 loop-holds c = (omega arith, spread-none _ _ _)
 
 mul-index : tie.Need-mul-index Inv-loop μ-loop
-mul-index c = omega (arith, smaller-most (c .before .before .before .before .args .to) (length (c .before .before .before .before .args .index .now)) _ (c .before .before .smaller-of .ensures), (c .before .loop .inv .1 .long))
+mul-index c =
+    omega (
+      arith,
+      smaller-most (c .before .before .before .before .args .to) (length (c .before .before .before .before .args .index .now)) _
+          (c .before .before .smaller-of .ensures),
+      (c .before .loop .inv .1 .long),
+    )
 
 slice-write-index : tie.Need-slice-write-index Inv-loop μ-loop
-slice-write-index c = omega (arith, smaller-most (c .before .before .before .before .args .to) (length (c .before .before .before .before .args .index .now)) _ (c .before .before .smaller-of .ensures), (c .before .loop .inv .1 .long))
+slice-write-index c =
+    omega (
+      arith,
+      smaller-most (c .before .before .before .before .args .to) (length (c .before .before .before .before .args .index .now)) _
+          (c .before .before .smaller-of .ensures),
+      (c .before .loop .inv .1 .long),
+    )
 
 add-i : tie.Need-add-i Inv-loop μ-loop
 add-i c = omega arith
@@ -32,7 +44,15 @@ loop-less : tie.Need-loop-less Inv-loop μ-loop
 loop-less c = omega arith
 
 loop-again : tie.Need-loop-again Inv-loop μ-loop
-loop-again c = (omega arith, spread-more _ _ _ _ _ (c .before .loop .inv .1) (c .before .loop .inv .0) (omega (arith, smaller-most (c .before .before .before .before .args .to) (length (c .before .before .before .before .args .index .now)) _ (c .before .before .smaller-of .ensures))))
+loop-again c = (
+  omega arith,
+  spread-more _ _ _ _ _ (c .before .loop .inv .1) (c .before .loop .inv .0)
+      (omega (
+        arith,
+        smaller-most (c .before .before .before .before .args .to) (length (c .before .before .before .before .args .index .now)) _
+            (c .before .before .smaller-of .ensures),
+      )),
+)
 
 same-length : tie.Need-same-length Inv-loop μ-loop
 same-length c = (c .before .loop .inv .1 .long)

@@ -17,7 +17,8 @@ of-row-requires : tie.Need-of-row-requires
 of-row-requires c κs = search needs
 
 returns-2 : tie.Need-returns-2
-returns-2 c = rows-some _ _ _ _ _ _ (c .before .before .before .begins-at-zero .ensures) (c .before .before .if1 .left) _ (c .before .eval .ensures) _ (c .of-row .ensures)
+returns-2 c =
+    rows-some _ _ _ _ _ _ (c .before .before .before .begins-at-zero .ensures) (c .before .before .if1 .left) _ (c .before .eval .ensures) _ (c .of-row .ensures)
 
 pub in-rows-spec : {M : Type 1} → statement M
 in-rows-spec =

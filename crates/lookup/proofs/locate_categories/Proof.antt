@@ -25,13 +25,17 @@ in-flat-requires : tie.Need-in-flat-requires
 in-flat-requires c κs = search needs
 
 returns-4 : tie.Need-returns-4
-returns-4 c = way-flat _ _ (some _ _ (c .before .before .before .before .before .is-scalar .ensures) (c .before .before .before .before .if1 .left)) (omega arith) (omega arith) _ (c .in-flat .ensures)
+returns-4 c =
+    way-flat _ _ (some _ _ (c .before .before .before .before .before .is-scalar .ensures) (c .before .before .before .before .if1 .left)) (omega arith)
+    (omega arith) _ (c .in-flat .ensures)
 
 in-rows-requires-2 : tie.Need-in-rows-requires-2
 in-rows-requires-2 c κs = search needs
 
 returns-5 : tie.Need-returns-5
-returns-5 c = way-beyond _ _ (some _ _ (c .before .before .before .before .before .is-scalar .ensures) (c .before .before .before .before .if1 .left)) (omega arith) (omega arith) _ (c .in-rows2 .ensures)
+returns-5 c =
+    way-beyond _ _ (some _ _ (c .before .before .before .before .before .is-scalar .ensures) (c .before .before .before .before .if1 .left)) (omega arith)
+    (omega arith) _ (c .in-rows2 .ensures)
 
 pub locate-categories-spec : {M : Type 1} → statement M
 locate-categories-spec =

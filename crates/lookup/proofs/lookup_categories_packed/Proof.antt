@@ -18,7 +18,9 @@ returns-3 : tie.Need-returns-3
 returns-3 c = packed-empty _ _ (some _ _ (c .before .before .before .is-scalar .ensures) (c .before .before .if1 .left)) (omega arith) (omega arith)
 
 returns-4 : tie.Need-returns-4
-returns-4 c = packed-past _ _ (some _ _ (c .before .before .before .before .is-scalar .ensures) (c .before .before .before .if1 .left)) (omega arith) (λ e. omega arith) (omega arith)
+returns-4 c =
+    packed-past _ _ (some _ _ (c .before .before .before .before .is-scalar .ensures) (c .before .before .before .if1 .left)) (omega arith) (λ e. omega arith)
+    (omega arith)
 
 mul-entry : tie.Need-mul-entry
 mul-entry c = search needs
@@ -30,7 +32,9 @@ cast-t13 : tie.Need-cast-t13
 cast-t13 c = search needs
 
 returns-5 : tie.Need-returns-5
-returns-5 c = packed-at _ _ (some _ _ (c .before .before .before .before .before .is-scalar .ensures) (c .before .before .before .before .if1 .left)) (omega arith) (λ e. omega arith) (omega arith)
+returns-5 c =
+    packed-at _ _ (some _ _ (c .before .before .before .before .before .is-scalar .ensures) (c .before .before .before .before .if1 .left)) (omega arith)
+    (λ e. omega arith) (omega arith)
 
 pub lookup-categories-packed-spec : {M : Type 1} → statement M
 lookup-categories-packed-spec =

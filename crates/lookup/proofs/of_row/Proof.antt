@@ -30,7 +30,13 @@ cast-len : tie.Need-cast-len
 cast-len c = omega (arith, (c .shared-slice-known2 .given) (c .before .before .before .before .args .row))
 
 add-end : tie.Need-add-end
-add-end c = omega (arith, (c .before .shared-slice-known .given) (c .before .before .before .before .args .row), (c .shared-slice-known2 .given) (c .before .before .before .before .args .row))
+add-end c =
+    omega (
+      arith,
+      (c .before .shared-slice-known .given) (c .before .before .before .before .args .row),
+      (c .shared-slice-known2 .given)
+          (c .before .before .before .before .args .row),
+    )
 
 returns-3 : tie.Need-returns-3
 returns-3 c = row-past _ _ _ _ (omega arith) (omega arith) (omega arith)

@@ -2,7 +2,8 @@
 -- stands highest in it. Assumes nothing.
 use native.Mathlib.Omega.{arith}
 use borrow.Author.Needs.{needs}
-use Rattle.packer.proofs.Bits.{mask-is, joined-up}
+use Rattle.field.proofs.Window.{mask-is}
+use Rattle.packer.proofs.Bits.{joined-up}
 use Rattle.packer.proofs.Writing.{Emits, emits-none, emits-more, emits-all}
 use Rattle.packer.proofs.BitWriter.put.Statement.{statement}
 use Rattle.packer.proofs.BitWriter.put.Tie as tie
