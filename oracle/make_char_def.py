@@ -178,7 +178,7 @@ def tell(name, lines):
     kinds = {}
     for line in lines:
         words = line.split(" ")
-        ends = [at for at, item in enumerate(words) if item in ("a", "w", "r", "b")]
+        ends = [at for at, item in enumerate(words) if item in ("a", "w", "r", "b", "f", "p")]
         kind = "r " + words[ends[-1] + 1] if words[ends[-1]] == "r" else words[ends[-1]]
         kinds[kind] = kinds.get(kind, 0) + 1
     print(f"{name}: {len(lines)} lines: " + ", ".join(f"{kind}: {count}" for kind, count in sorted(kinds.items())))

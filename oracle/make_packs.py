@@ -1,6 +1,7 @@
 #!/usr/bin/env python3
 """Makes lists/packs.txt by document 01's words alone: the Rust has no packs. README.md has its format."""
 
+import handed_cases as handed
 import pack_cases as cases
 import packs
 import paper
@@ -11,8 +12,8 @@ from pack_cases import Case
 
 SEED = 6
 
-READINGS, LOOSENED, NOISE = 150, 400, 100
-BASES, EDITS, FULL_EDITS, FULL_FIELDS = 4, 80, 150, 110
+READINGS, LOOSENED, NOISE = 120, 300, 80
+BASES, EDITS, FULL_EDITS, FULL_FIELDS = 4, 75, 130, 90
 # Of the accepted small packs one in so many has its tables written out; small is up to so many bytes.
 WRITTEN, SMALL = 2, 64
 LONGEST, LONGEST_BASE = 70_000, 40_960
@@ -80,7 +81,7 @@ class List:
     """Lines, each pack once."""
 
     def __init__(self):
-        self.lines, self.seen, self.accepted, self.reached = [], set(), 0, {}
+        self.lines, self.seen, self.accepted, self.reached, self.base = [], set(), 0, {}, b""
 
     def add(self, words, case):
         answer, kind = answer_to(case)
@@ -100,11 +101,17 @@ class List:
 
     def based(self, group):
         """The first is the base, and the others are edits of it."""
-        base = group[0].data
+        base = self.base = group[0].data
         assert len(base) <= LONGEST_BASE
         self.lines.append(spelled(base).words + " b")
         for case in self.fresh(group):
             self.add(edited(base, difference(base, case.data)).words, case)
+
+
+    def handed(self, one, group):
+        """Damage to the tables of the base, which the writer is handed."""
+        assert self.base == packs.packed(packs.fields(one))
+        self.lines += [f"{edited(self.base, (0, 0, b'')).words} {handed.line(one, changes)}" for changes in group]
 
 
 def difference(base, data):
@@ -128,8 +135,13 @@ def make():
     made.plain(fixed())
     made.plain(random_packs(random))
     made.lines += rooms()
-    for group in [*of_small_packs(), cases.full_names(), cases.largest()]:
+    small, *others = of_small_packs()
+    made.based(small)
+    one = cases.SMALL
+    made.handed(one, [*handed.set_bytes(one), *handed.bounds(), *handed.counts(one), *handed.sizes(one), *handed.together()])
+    for group in [*others, cases.full_names(), cases.largest()]:
         made.based(group)
+    made.handed(group[0].wanted, handed.full(group[0].wanted))
     for one in bases(random):
         made.based(damaged(random, one, EDITS, EDITS // 3))
     made.based(damaged(random, cases.full_reading(random), FULL_EDITS, FULL_FIELDS))

@@ -1,8 +1,9 @@
 #!/usr/bin/env python3
 """Puts the lists that the try_ programs replay into the place where rt hands them over, crates/NAME/stdin.
 
-With --check it writes nothing and fails where a file there is not what the lists say. The character list is made here, by Python's
-own encoder; the others are made by make_lists.py and make_char_def.py with the Rust."""
+With --check it writes nothing and fails where a file there is not what the lists say, or where a program's stdout, which is written by
+hand, does not have as many lines agree as its list asks. The character list is made here, by Python's own encoder; those of packs are made
+by make_packs.py, and the others by make_lists.py and make_char_def.py with the Rust."""
 import os
 import sys
 
@@ -39,6 +40,17 @@ TRIES = {"try_text": try_text, "try_numeral": lambda: lines("numerals.txt"), "tr
          "try_pack": lambda: lines("packs.txt")}
 
 
+# Programs that say only how many lines agreed; a line that ends in `b` asks nothing.
+COUNTING = ("try_char_def", "try_pack")
+
+
+def miscounted(name, made):
+    """Whether the program's stdout is not that every line agrees."""
+    asked = sum(not line.endswith(" b") for line in made)
+    with open(os.path.join(TOP, "crates", name, "stdout"), encoding="ascii") as file:
+        return name in COUNTING and file.read() != f"{asked} agreed, 0 differed\n"
+
+
 def main():
     wrong = 0
     for name, made in TRIES.items():
@@ -49,6 +61,9 @@ def main():
                 if file.read() != text:
                     print(f"{path} is not what oracle/lists say: run oracle/make_tries.py")
                     wrong = 1
+            if miscounted(name, made()):
+                print(f"crates/{name}/stdout does not count the lines of its list")
+                wrong = 1
         else:
             with open(path, "w", encoding="ascii") as file:
                 file.write(text)

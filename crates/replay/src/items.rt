@@ -29,7 +29,7 @@ pub fn bounded(n: u64) -> usize
 }
 
 // The bytes of the field at a place, put behind the text; how long it is then.
-fn put_field(list: &[u8], at: usize, text: &mut [u8], size: usize) -> usize {
+pub fn put_field(list: &[u8], at: usize, text: &mut [u8], size: usize) -> usize {
     if text.len() < size {
         return text.len();
     }

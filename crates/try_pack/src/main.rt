@@ -1,7 +1,10 @@
 // Replays oracle/lists/packs.txt over the pack's reader: packs written and read by a second hand from the paper's words, each limit and one
 // more, every rule broken at every kind of field, cuts and damage, rooms one byte short. oracle/README.md has the list's form. Every room is
-// lent with bytes behind its size, and all of them are looked at afterwards.
+// lent with bytes behind its size, and all of them are looked at afterwards. What is accepted goes through the pack writer, too.
+mod writer;
+
 use libc::STDIN_FILENO;
+use paper::Outcome;
 use replay::items::Reader;
 use replay::rooms::CATEGORIES;
 use replay::rooms::DEFINITIONS;
@@ -45,7 +48,21 @@ fn agrees(
     if !replay::rooms::answer_agrees(list, at, answer) {
         return false;
     }
-    replay::rooms::rooms_agree(list, at, names, categories, definitions, ranges, references)
+    if !replay::rooms::rooms_agree(list, at, names, categories, definitions, ranges, references) {
+        return false;
+    }
+    match answer {
+        Outcome::Refused(_) => true,
+        Outcome::Accepted(counts) => writer::writes_back(
+            names,
+            categories,
+            definitions,
+            ranges,
+            references,
+            counts,
+            pack,
+        ),
+    }
 }
 
 fn tried(list: &[u8], at: usize, pack: &[u8], short: usize) -> bool {
@@ -67,17 +84,24 @@ fn tried(list: &[u8], at: usize, pack: &[u8], short: usize) -> bool {
     )
 }
 
-// What a line's last item asks: a base asks nothing.
+// What a line asks behind its text: what the reader says of it, or what the writer makes of its tables.
+fn answered(list: &[u8], r: Reader, pack: &[u8]) -> bool {
+    match replay::byte_at(list, r.at) {
+        b'd' | b'c' | b's' => writer::tried(list, r.at, pack),
+        _ => tried(list, r.at, pack, r.short),
+    }
+}
+
+// A base asks nothing.
 fn asked(t: Tally, list: &[u8], r: Reader, text: &[u8], number: u64) -> Tally {
-    let at = r.at;
     let size = r.size;
-    if replay::byte_at(list, at) == b'b' {
+    if replay::byte_at(list, r.at) == b'b' {
         return t;
     }
     if text.len() < size {
         return replay::tally::noted(t, false, number);
     }
-    replay::tally::noted(t, tried(list, at, &text[..size], r.short), number)
+    replay::tally::noted(t, answered(list, r, &text[..size]), number)
 }
 
 fn replay_all(list: &[u8]) -> Tally {

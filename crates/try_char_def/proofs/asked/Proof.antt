@@ -3,7 +3,6 @@
 use borrow.Author.Needs.{needs}
 use native.Mathlib.Omega.{arith}
 use lib.ListN.{length-take}
-use borrow.Author.Needs.{needs}
 use Rattle.try_char_def.proofs.asked.Statement.{statement}
 use Rattle.try_char_def.proofs.asked.Tie as tie
 

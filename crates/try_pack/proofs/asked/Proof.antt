@@ -3,7 +3,6 @@
 use borrow.Author.Needs.{needs}
 use native.Mathlib.Omega.{arith}
 use lib.ListN.{length-take}
-use borrow.Author.Needs.{needs}
 use Rattle.try_pack.proofs.asked.Statement.{statement}
 use Rattle.try_pack.proofs.asked.Tie as tie
 
@@ -19,11 +18,11 @@ noted-requires c κs = search needs
 returns-2 : tie.Need-returns-2
 returns-2 c = search needs
 
-slice-aggregate-tried : tie.Need-slice-aggregate-tried
-slice-aggregate-tried c = simp length-take (omega arith)
+slice-aggregate-answered : tie.Need-slice-aggregate-answered
+slice-aggregate-answered c = simp length-take (omega arith)
 
-tried-requires : tie.Need-tried-requires
-tried-requires c κs = search needs
+answered-requires : tie.Need-answered-requires
+answered-requires c κs = search needs
 
 noted-requires-2 : tie.Need-noted-requires-2
 noted-requires-2 c κs = search needs
@@ -39,7 +38,7 @@ asked-spec =
     returns
     noted-requires
     returns-2
-    slice-aggregate-tried
-    tried-requires
+    slice-aggregate-answered
+    answered-requires
     noted-requires-2
     returns-3)
