@@ -4,7 +4,7 @@
 import layout
 import paper
 import unk_cases as cases
-import unk_handed as handed
+import unk_handed
 from ask import FOLDER, Random, ask, word
 from items import edited, plain, text, times
 from texts import long_unk_text, unk_bases, unk_edit, unk_noise, unk_text
@@ -146,7 +146,7 @@ class List:
         reading = paper.sized_char_def(char_def.data)
         assert not isinstance(reading, str), reading
         self.lines.append(char_def.words + " c")
-        self.whole, self.names = handed.handed(reading), reading.names
+        self.whole, self.names = unk_handed.handed(reading), reading.names
 
     def texts(self, some, written=0, looked=0):
         """Of those that are accepted one in `written` has its tables written out, one in `looked` is looked up; 0: none."""
@@ -169,7 +169,7 @@ class List:
 
     def handed(self, case, tables):
         """The text over tables that may not hold together."""
-        answers = [expected(some.names(), [case.data])[0] if some.holds() else "refused 26 0" for some in tables]
+        answers = ["refused 26 0" if some.names() is None else expected(some.names(), [case.data])[0] for some in tables]
         self.lines += [f"{case.words} {some.words}{answer_words(answer)}" for some, answer in zip(tables, answers)]
 
     def handed_often(self, case, tables):
@@ -196,29 +196,29 @@ def handed_in(made, random):
     """26: tables and counts that don't hold together, and some that do though no char.def says them."""
     made.over(cases.SMALL)
     small = made.whole
-    broken = small.put(handed.RANGES, 0, b"\xff\xfe")
+    broken = small.put(unk_handed.RANGES, 0, b"\xff\xfe")
     made.rooms(LATER, [small])
     made.rooms(LATER[:3], [broken])
     for case in LATER:
-        made.handed(case, [small, broken, small.counted(handed.OF_CATEGORIES, 5)])
-    tables = [*handed.each_byte(small), *handed.each_count(small), *handed.each_cut(small), *handed.apart(small), *handed.renamed(small),
-              *handed.unknown_numbers(small), *handed.each_bound(small, 0), *handed.each_bound(small, 3)]
-    made.handed_often(OF_SMALL, tables + [handed.random_damage(random, small) for _ in range(DAMAGES)])
+        made.handed(case, [small, broken, small.counted(unk_handed.OF_CATEGORIES, 5)])
+    tables = [*unk_handed.each_byte(small), *unk_handed.each_count(small), *unk_handed.each_cut(small), *unk_handed.apart(small), *unk_handed.renamed(small),
+              *unk_handed.unknown_numbers(small), *unk_handed.each_bound(small, 0), *unk_handed.each_bound(small, 3)]
+    made.handed_often(OF_SMALL, tables + [unk_handed.random_damage(random, small) for _ in range(DAMAGES)])
     made.over(cases.BARE)
-    made.handed(text("B,1,2,3"), [*handed.each_count(made.whole), *handed.each_cut(made.whole)])
+    made.handed(text("B,1,2,3"), [*unk_handed.each_count(made.whole), *unk_handed.each_cut(made.whole)])
     made.over(cases.NONE)
-    made.handed(text("A,1,2,3"), [*handed.each_count(made.whole), *handed.each_cut(made.whole)])
+    made.handed(text("A,1,2,3"), [*unk_handed.each_count(made.whole), *unk_handed.each_cut(made.whole)])
 
 
 def over_full(made, random):
     """Every table of the reading full: its last entries, and damage anywhere."""
     made.over(cases.FULL)
     made.texts(cases.over_full())
-    ends = [(table, room - width) for table, (room, width) in enumerate(zip(layout.ROOMS, handed.WIDTHS))]
-    tables = handed.past_limits(made.whole)
+    ends = [(table, room - width) for table, (room, width) in enumerate(zip(layout.ROOMS, unk_handed.WIDTHS))]
+    tables = unk_handed.past_limits(made.whole)
     tables += [made.whole.put(table, at, bytes([made.whole.tables[table][at] ^ 1])) for table, at in ends]
-    tables += [*handed.each_cut(made.whole), *handed.each_count(made.whole), *handed.each_bound(made.whole, 2047), *handed.unknown_numbers(made.whole)]
-    made.handed(text("A,1,2,3"), tables + [handed.random_damage(random, made.whole) for _ in range(DAMAGES)])
+    tables += [*unk_handed.each_cut(made.whole), *unk_handed.each_count(made.whole), *unk_handed.each_bound(made.whole, 2047), *unk_handed.unknown_numbers(made.whole)]
+    made.handed(text("A,1,2,3"), tables + [unk_handed.random_damage(random, made.whole) for _ in range(DAMAGES)])
 
 
 def make():
@@ -238,7 +238,7 @@ def make():
     made.over(cases.SAMPLE)
     sample = text((FOLDER.parent / "samples/unk.def").read_bytes())
     made.texts([sample], written=1, looked=1)
-    made.handed_often(sample, [handed.random_damage(random, made.whole) for _ in range(DAMAGES)])
+    made.handed_often(sample, [unk_handed.random_damage(random, made.whole) for _ in range(DAMAGES)])
     made.damaged(random)
     tell(made.lines)
     (FOLDER / "lists/unk.txt").write_text("".join(line + "\n" for line in made.lines))

@@ -257,41 +257,8 @@ def sized_unk(categories, data):
     return sized(data, lambda text: unk_answer(categories, text, UNK_ENTRIES))
 
 
-def holds(tables, counts):
-    """Tables that are handed in hold together: no pack rule is broken, no table is shorter than its count."""
-    categories, definitions, ranges, references, name_bytes = counts
-    needs = (name_bytes, 4 * categories, 6 * definitions, 8 * ranges, 2 * references)
-    limits = (NAME_BYTES, 4 * CATEGORIES, 6 * CATEGORY_LINES, 8 * RANGES, 2 * REFERENCES)
-    if any(need > limit or need > len(table) for need, limit, table in zip(needs, limits, tables)):
-        return False
-    names, slots, flags, bounds, numbers = (table[:need] for table, need in zip(tables, needs))
-    return (names_hold(names, numbers_of(slots, 2)) and all(flag < 2 for at, flag in enumerate(flags) if at % 6 > 3)
-            and ranges_hold(numbers_of(bounds, 2), references)
-            and all(number < categories for number in numbers_of(numbers, 2)))
-
-
 def numbers_of(table, width):
     return [int.from_bytes(table[at:at + width], "little") for at in range(0, len(table), width)]
-
-
-def names_hold(names, slots):
-    """One behind another from 0, of at least one byte, well-formed, no name twice."""
-    parts = list(zip(slots[::2], slots[1::2]))
-    found = [names[start:start + length] for start, length in parts]
-    return (stands(parts, len(names)) and b"" not in found and len(set(found)) == len(found)
-            and all(well_formed(name) for name in found))
-
-
-def ranges_hold(words, references):
-    lower, upper, first, count = (words[at::4] for at in range(4))
-    bounds_known = all(not 0xD800 <= end <= 0xDFFF and end not in (0xFEFF, 0xFFFE) for end in lower + upper)
-    return bounds_known and stands(list(zip(first, count)), references)
-
-
-def stands(parts, total):
-    """Parts of a store, each a start and a length, stand one behind another from 0 up to its end."""
-    ends = list(accumulate((length for _, length in parts), initial=0))
-    return [start for start, _ in parts] == ends[:-1] and ends[-1] == total
 
 
 def well_formed(data):

@@ -5,12 +5,12 @@ from typing import NamedTuple
 import layout
 import paper
 from ask import word
+from handed import WIDTHS, handed_in
 
 NAMES, CATEGORIES, DEFINITIONS, RANGES, REFERENCES = range(5)
 # Counts, in their order.
 OF_CATEGORIES, OF_DEFINITIONS, OF_RANGES, OF_REFERENCES, OF_NAME_BYTES = range(5)
-# The bytes of an entry of each table, and how many bytes stand behind each table's size, so that a count may pass its limit.
-WIDTHS = (1, 4, 6, 8, 2)
+# How many bytes stand behind each table's size, so that a count may pass its limit.
 SPARE = 16
 # What a bound must not be, and what stands beside it.
 BOUNDS = (0xD7FF, 0xD800, 0xDBFF, 0xDC00, 0xDFFF, 0xE000, 0xFEFE, 0xFEFF, 0xFF00, 0xFFFD, 0xFFFE, 0xFFFF)
@@ -46,13 +46,10 @@ class Handed(NamedTuple):
         counts = (name_bytes, categories, definitions, ranges, references)
         return [count * width for count, width in zip(counts, WIDTHS)]
 
-    def holds(self):
-        return paper.holds(self.tables, self.counts)
-
     def names(self):
-        """The names, where the tables hold together."""
-        words = paper.numbers_of(self.tables[CATEGORIES][:4 * self.counts[OF_CATEGORIES]], 2)
-        return [self.tables[NAMES][start:start + length].decode() for start, length in zip(words[::2], words[1::2])]
+        """The names, None where the tables don't hold together."""
+        reading = handed_in(self.tables, self.counts)
+        return None if reading is None else reading.names
 
 
 def handed(reading):
