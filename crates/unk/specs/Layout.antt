@@ -29,7 +29,13 @@ entrySize = 8
 abbrev pub offsetSize : ℕ
 offsetSize = 4
 
--- where the mark stands in an entry
+-- where its fields stand in an entry, behind the left
+abbrev pub rightAt : ℕ
+rightAt = 2
+
+abbrev pub costAt : ℕ
+costAt = 4
+
 abbrev pub markAt : ℕ
 markAt = 6
 
