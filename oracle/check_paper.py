@@ -10,7 +10,7 @@ from ask import FOLDER, Random, ask, word
 from texts import char_text, unk_text
 
 SEED = 2
-TEXTS = int(sys.argv[1]) if len(sys.argv) > 1 else 200_000
+TEXTS = int(sys.argv[1]) if __name__ == "__main__" and len(sys.argv) > 1 else 200_000
 
 # The answers below are document 01's, without messages. Its packs have no counterpart in the Rust.
 EXAMPLES = [

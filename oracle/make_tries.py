@@ -3,7 +3,7 @@
 
 With --check it writes nothing and fails where a file there is not what the lists say, or where a program's stdout, which is written by
 hand, does not have as many lines agree as its list asks. The character list is made here, by Python's own encoder; those of packs are made
-by make_packs.py, and the others by make_lists.py and make_char_def.py with the Rust."""
+by make_packs.py, and the others by make_lists.py, make_char_def.py and make_unk.py with the Rust."""
 import os
 import sys
 
@@ -37,16 +37,16 @@ def try_text():
 
 
 TRIES = {"try_text": try_text, "try_numeral": lambda: lines("numerals.txt"), "try_char_def": lambda: lines("char_def.txt"),
-         "try_pack": lambda: lines("packs.txt")}
+         "try_pack": lambda: lines("packs.txt"), "try_unk": lambda: lines("unk.txt")}
 
 
-# Programs that say only how many lines agreed; a line that ends in `b` asks nothing.
-COUNTING = ("try_char_def", "try_pack")
+# Programs that say only how many lines agreed; a line that ends in `b` or `c` asks nothing.
+COUNTING = ("try_char_def", "try_pack", "try_unk")
 
 
 def miscounted(name, made):
     """Whether the program's stdout is not that every line agrees."""
-    asked = sum(not line.endswith(" b") for line in made)
+    asked = sum(not line.endswith((" b", " c")) for line in made)
     with open(os.path.join(TOP, "crates", name, "stdout"), encoding="ascii") as file:
         return name in COUNTING and file.read() != f"{asked} agreed, 0 differed\n"
 

@@ -6,12 +6,14 @@ Answers have the form of the oracle's, without messages, so that the two can be 
 
 import re
 import sys
+from itertools import accumulate
 
 # Python refuses decimal numerals of over 4,300 digits; a line of char.def may hold one.
 sys.set_int_max_str_digits(0)
 
 # Document 01, "Sizes".
 TEXT_BYTES, CATEGORIES, NAME_BYTES, CATEGORY_LINES, RANGES, REFERENCES = 65536, 512, 16384, 512, 2048, 8192
+UNK_ENTRIES, DETAIL_BYTES = 4096, 65536
 
 WHITE = "".join(map(chr, [*range(0x09, 0x0E), 0x20, 0x85, 0xA0, 0x1680, *range(0x2000, 0x200B),
                           0x2028, 0x2029, 0x202F, 0x205F, 0x3000]))
@@ -170,16 +172,21 @@ def char_def(text):
     return read(text.split("\n"), reading.line) or reading
 
 
-def sized_char_def(data):
-    """The reading of any bytes within the sizes, or the refusal."""
+def sized(data, reader):
+    """What a reader answers to any bytes: 2 and 3 come before its lines."""
     if len(data) > TEXT_BYTES:
         return "refused 2 0"
     try:
         text = data.decode("utf-8", "strict")
     except UnicodeDecodeError as bad:
         return f"refused 3 {bad.start}"
+    return reader(text)
+
+
+def sized_char_def(data):
+    """The reading of any bytes within the sizes, or the refusal."""
     reading = Sized()
-    return read(text.split("\n"), reading.line) or reading
+    return sized(data, lambda text: read(text.split("\n"), reading.line)) or reading
 
 
 def char_answer(reading):
@@ -223,15 +230,40 @@ def unk_entry(line):
     return name, f"{left % 0x10000}:{right % 0x10000}:{cost}", "\0".join(fields[3:]).encode()
 
 
-def unk_answer(categories, text):
+def unk_answer(categories, text, most=None):
+    """The Rust has no limit on entries, document 01 has one."""
     entries = []
-    refusal = read(unk_lines(text), lambda line: entries.append(unk_entry(line)))
+
+    def add(line):
+        entry = unk_entry(line)
+        if len(entries) == most:
+            raise Refused(25)
+        entries.append(entry)
+
+    refusal = read(unk_lines(text), add)
     if refusal:
         return refusal
     references = [[at for at, entry in enumerate(entries) if entry[0] == category]
                   for category in categories]
     records = [len(details).to_bytes(4, "little") + details for _, _, details in entries]
-    offsets = [len(b"".join(records[:at])) for at in range(len(records))]
+    offsets = list(accumulate(map(len, records), initial=0))[:-1]
     numbers = listed(entry[1] for entry in entries)
     details = b"".join(records).hex() or "-"
     return f"ok {numbers} {listed(map(row_word, references))} {listed(offsets)} {details}"
+
+
+def sized_unk(categories, data):
+    """The answer to any bytes within the sizes."""
+    return sized(data, lambda text: unk_answer(categories, text, UNK_ENTRIES))
+
+
+def numbers_of(table, width):
+    return [int.from_bytes(table[at:at + width], "little") for at in range(0, len(table), width)]
+
+
+def well_formed(data):
+    try:
+        data.decode("utf-8", "strict")
+    except UnicodeDecodeError:
+        return False
+    return True

@@ -117,7 +117,13 @@ DIGITS = [b"FEFF", b"fffe", b"FFFE..41", b"41..FEFF", b"D800", b"10000", b"g", b
 BYTES = list(b"\n\r\t #.+-0x1Aag\0\x80\xbf\xc2\xe3\xed\xf0\xff")
 
 
-def edit(random, data):
+def bound_edit(random, data):
+    """The four digits behind some `0x` go, and others come."""
+    at = data.find(b"0x", random.below(len(data))) + 2
+    return at, min(4, len(data) - at), random.of(DIGITS)
+
+
+def edit(random, data, tokens=TOKENS, field_edit=bound_edit):
     """Where, how many bytes go, what comes."""
     at = random.below(len(data)) if data else 0
     some = min(1 + random.below(12), len(data) - at)
@@ -133,16 +139,10 @@ def edit(random, data):
     if kind == 4:
         return at, len(data) - at, b""
     if kind == 5:
-        return at, 0, random.of(TOKENS if random.below(8) else ILL_FORMED)
+        return at, 0, random.of(tokens if random.below(8) else ILL_FORMED)
     if kind == 6:
-        return bound_edit(random, data)
+        return field_edit(random, data)
     return line_edit(random, data, exchange=kind == 7)
-
-
-def bound_edit(random, data):
-    """The four digits behind some `0x` go, and others come."""
-    at = data.find(b"0x", random.below(len(data))) + 2
-    return at, min(4, len(data) - at), random.of(DIGITS)
 
 
 def line_edit(random, data, exchange):
@@ -164,6 +164,51 @@ def spliced(data, change):
     return data[:at] + come + data[at + gone:]
 
 
-def noise(random):
-    tokens = [random.of(TOKENS if random.below(80) else ILL_FORMED) for _ in range(random.below(24))]
-    return b"".join(tokens)
+def noise(random, tokens=TOKENS):
+    return b"".join(random.of(tokens if random.below(80) else ILL_FORMED) for _ in range(random.below(24)))
+
+
+# unk.def: long texts, noise and damage.
+
+FIELDS = [field.encode() for field in NAMES + NUMBERS + BAD_NUMBERS + COSTS + BAD_COSTS + ["", "x", "名詞", "*", "\0", "\r", " "]]
+UNK_TOKENS = FIELDS + [b"," + field for field in FIELDS] + [b",", b",", b"\n", b"\n", b"\r\n", b"\r", b",0,0,0\n", b"A,1,2,3\n"]
+
+
+def long_unk_line(random):
+    if random.below(250) == 0:
+        return unk_line(random)
+    numbers = [random.of([random.of(NUMBERS), str(random.below(2000))]) for _ in range(2)]
+    cost = random.of([random.of(COSTS), str(random.below(40000) - 20000)])
+    details = [random.of(["名詞", "一般", "noun", "*", "*", "", "\0"]) for _ in range(random.below(6))]
+    return ",".join([random.of(NAMES + POOL), *numbers, cost, *details])
+
+
+def long_unk_text(random):
+    end = random.of(["\n", "\n", "\r\n"])
+    lines = [long_unk_line(random) for _ in range(20 + random.below(41))]
+    return end.join(lines) + random.of(["", end])
+
+
+def unk_noise(random):
+    return noise(random, UNK_TOKENS)
+
+
+def unk_edit(random, data):
+    return edit(random, data, UNK_TOKENS, comma_edit)
+
+
+def comma_edit(random, data):
+    """A field behind some comma goes, and another comes."""
+    at = data.find(b",", random.below(len(data))) + 1
+    ends = [end for end in (data.find(b",", at), data.find(b"\n", at)) if end >= 0]
+    return at, min(ends, default=len(data)) - at, random.of(FIELDS)
+
+
+def unk_bases(random, count, categories):
+    """Texts to damage: the sample and accepted long ones."""
+    found = [(FOLDER.parent / "samples/unk.def").read_bytes()]
+    while len(found) <= count:
+        data = long_unk_text(random).encode()
+        if paper.sized_unk(categories, data).startswith("ok "):
+            found.append(data)
+    return found

@@ -22,7 +22,7 @@ pub struct Reader {
     pub ended: bool,
 }
 
-fn bounded(n: u64) -> usize
+pub fn bounded(n: u64) -> usize
     ensures { λ r. ⌜ r ≤ 100000 ⌝ }
 {
     (n % (MOST + 1)) as usize
@@ -106,7 +106,7 @@ fn put_part(base: &[u8], from: usize, to: usize, text: &mut [u8], size: usize) -
     end
 }
 
-fn keep(text: &[u8], size: usize, base: &mut [u8]) -> usize {
+pub fn keep(text: &[u8], size: usize, base: &mut [u8]) -> usize {
     let mut at = 0;
     while at < size {
         if base.len() <= at {

@@ -8,6 +8,8 @@ use crate::number_at;
 use crate::number_of;
 use paper::Counts;
 use paper::Outcome;
+use paper::Refusal;
+use paper::TABLES_APART;
 
 // What lies in a room before the reader is called, and how many bytes of it stand behind each size.
 pub const FILL: u8 = 0xA5;
@@ -25,7 +27,7 @@ pub const RANGES: usize = 16384 + 16;
 
 pub const REFERENCES: usize = 16384 + 16;
 
-// Refusals below it leave lent memory alone, all others that a reader gives leave it zero.
+// Refusals below it leave lent memory alone, and so does 26; all others that a reader gives leave it zero.
 const FIRST_ZERO: u64 = 4;
 
 // Where `a` and `w` have their sum, and `w` its tables.
@@ -42,7 +44,7 @@ const RANGES_FIELD: usize = 10;
 const REFERENCES_FIELD: usize = 11;
 
 // FNV-1a of 32 bits: what it begins with, its factor, and how many sums there are.
-const SUM_START: u64 = 2166136261;
+pub const SUM_START: u64 = 2166136261;
 
 const SUM_FACTOR: u64 = 16777619;
 
@@ -82,26 +84,28 @@ fn counts_agree(list: &[u8], at: usize, c: Counts) -> bool {
     c.bytes as u64 == number_at(list, bytes)
 }
 
+// The item at a place says this refusal.
+pub fn refusal_agrees(list: &[u8], at: usize, r: Refusal) -> bool {
+    if byte_at(list, at) != b'r' {
+        return false;
+    }
+    let said = after_field(list, at);
+    if r.number as u64 != number_at(list, said) {
+        return false;
+    }
+    r.place as u64 == number_at(list, after_field(list, said))
+}
+
 // The item at a place says this answer.
 pub fn answer_agrees(list: &[u8], at: usize, answer: Outcome) -> bool {
-    let refused = byte_at(list, at) == b'r';
-    let said = after_field(list, at);
     match answer {
         Outcome::Accepted(c) => {
-            if refused {
+            if byte_at(list, at) == b'r' {
                 return false;
             }
-            counts_agree(list, said, c)
+            counts_agree(list, after_field(list, at), c)
         }
-        Outcome::Refused(r) => {
-            if !refused {
-                return false;
-            }
-            if r.number as u64 != number_at(list, said) {
-                return false;
-            }
-            r.place as u64 == number_at(list, after_field(list, said))
-        }
+        Outcome::Refused(r) => refusal_agrees(list, at, r),
     }
 }
 
@@ -163,7 +167,7 @@ fn is_spelled(list: &[u8], start: usize, end: usize, room: &[u8]) -> bool {
 }
 
 // The field that stands so many behind the one at a place.
-fn field_behind(list: &[u8], at: usize, count: usize) -> usize {
+pub fn field_behind(list: &[u8], at: usize, count: usize) -> usize {
     let mut found = at;
     let mut k = 0;
     while k < count {
@@ -173,14 +177,21 @@ fn field_behind(list: &[u8], at: usize, count: usize) -> usize {
     found
 }
 
+fn leaves_alone(number: u64) -> bool {
+    if number == TABLES_APART as u64 {
+        return true;
+    }
+    number < FIRST_ZERO
+}
+
 // A room is as the item at a place says: left alone or zero where it refuses, the table where it has one, and the guard always left alone.
-fn room_agrees(list: &[u8], at: usize, table: usize, room: &[u8]) -> bool {
+pub fn room_agrees(list: &[u8], at: usize, table: usize, room: &[u8]) -> bool {
     if !is_guarded(room) {
         return false;
     }
     match byte_at(list, at) {
         b'r' => {
-            if number_at(list, after_field(list, at)) < FIRST_ZERO {
+            if leaves_alone(number_at(list, after_field(list, at))) {
                 return is_all(room, FILL);
             }
             is_all(room, 0)
@@ -202,7 +213,7 @@ fn sum_on(sum: u64, b: u8) -> u64 {
 }
 
 // The sum over a room's bytes up to its size, behind the sum over others.
-fn sum_over(sum: u64, room: &[u8]) -> u64 {
+pub fn sum_over(sum: u64, room: &[u8]) -> u64 {
     let mut total = sum;
     let mut at = 0;
     while at < room.len() {

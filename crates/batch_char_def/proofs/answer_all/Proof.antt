@@ -15,8 +15,8 @@ abbrev μ-loop : tie.MeasureT-loop
 loop-holds : tie.Need-loop-holds Inv-loop μ-loop
 loop-holds c = search needs
 
-next-record-requires : tie.Need-next-record-requires Inv-loop μ-loop
-next-record-requires c κs = search needs
+next-answer-requires : tie.Need-next-answer-requires Inv-loop μ-loop
+next-answer-requires c κs = search needs
 
 same-length : tie.Need-same-length Inv-loop μ-loop
 same-length c = search needs
@@ -46,7 +46,7 @@ answer-all-spec =
     Inv-loop
     μ-loop
     loop-holds
-    next-record-requires
+    next-answer-requires
     same-length
     returns
     sub-left

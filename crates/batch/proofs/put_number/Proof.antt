@@ -1,14 +1,14 @@
--- `batch_char_def::put_u64` ends: `left` falls with each byte.
+-- `batch::put_number` ends: `left` falls with each byte.
 -- Assumes nothing.
 use borrow.Author.Needs.{needs}
-use Rattle.batch_char_def.proofs.put_u64.Statement.{statement}
-use Rattle.batch_char_def.proofs.put_u64.Tie as tie
+use Rattle.batch.proofs.put_number.Statement.{statement}
+use Rattle.batch.proofs.put_number.Tie as tie
 
 abbrev Inv-loop : tie.InvT-loop
-Inv-loop n rest₀ left₀ rest left = Unit {0}
+Inv-loop n width rest₀ left₀ rest left = Unit {0}
 
 abbrev μ-loop : tie.MeasureT-loop
-μ-loop n rest₀ left₀ rest left = left
+μ-loop n width rest₀ left₀ rest left = left
 
 loop-holds : tie.Need-loop-holds Inv-loop μ-loop
 loop-holds c = search needs
@@ -28,7 +28,7 @@ loop-again c = search needs
 returns : tie.Need-returns Inv-loop μ-loop
 returns c = search needs
 
-pub put-u64-spec : {M : Type 1} → statement M
-put-u64-spec =
+pub put-number-spec : {M : Type 1} → statement M
+put-number-spec =
     tie.close
     (tie.spec Inv-loop μ-loop loop-holds put-requires sub-left loop-less loop-again returns)

@@ -1,10 +1,10 @@
--- `batch_char_def::least` meets its contract: it never passes the room's length.
+-- `batch::least` meets its contract: it never passes the room's length.
 -- Assumes nothing.
 use borrow.Author.Needs.{needs}
 use native.Mathlib.Omega.{arith}
 use Rattle.io.proofs.Counting.{counts}
-use Rattle.batch_char_def.proofs.least.Statement.{statement}
-use Rattle.batch_char_def.proofs.least.Tie as tie
+use Rattle.batch.proofs.least.Statement.{statement}
+use Rattle.batch.proofs.least.Tie as tie
 
 returns : tie.Need-returns
 returns c = counts _ _ (omega arith)

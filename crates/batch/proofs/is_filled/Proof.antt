@@ -1,9 +1,9 @@
--- `batch_char_def::is_filled` ends: `at` rises to `to`.
+-- `batch::is_filled` ends: `at` rises to `to`.
 -- Assumes nothing.
 use borrow.Author.Needs.{needs}
 use Prim.Native.Nat.{_-_}
-use Rattle.batch_char_def.proofs.is_filled.Statement.{statement}
-use Rattle.batch_char_def.proofs.is_filled.Tie as tie
+use Rattle.batch.proofs.is_filled.Statement.{statement}
+use Rattle.batch.proofs.is_filled.Tie as tie
 
 abbrev Inv-loop : tie.InvT-loop
 Inv-loop room from to b at₀ at = Unit {0}
