@@ -24,6 +24,9 @@ def word(text):
     return data.hex() or "-"
 
 
+MASK = 2**64 - 1
+
+
 class Random:
     """splitmix64: Python's own generator may change from version to version, and a list made
     again must be the same."""
@@ -32,14 +35,18 @@ class Random:
         self.state = seed
 
     def below(self, limit):
-        self.state = (self.state + 0x9E3779B97F4A7C15) % 2**64
+        self.state = (self.state + 0x9E3779B97F4A7C15) & MASK
         z = self.state
-        z = (z ^ (z >> 30)) * 0xBF58476D1CE4E5B9 % 2**64
-        z = (z ^ (z >> 27)) * 0x94D049BB133111EB % 2**64
+        z = (z ^ (z >> 30)) * 0xBF58476D1CE4E5B9 & MASK
+        z = (z ^ (z >> 27)) * 0x94D049BB133111EB & MASK
         return (z ^ (z >> 31)) % limit
 
     def of(self, items):
         return items[self.below(len(items))]
+
+    def bytes(self, count):
+        words = [self.below(2**64).to_bytes(8, "little") for _ in range((count + 7) // 8)]
+        return b"".join(words)[:count]
 
     def text(self, letters, most):
         return "".join(self.of(letters) for _ in range(self.below(most + 1)))

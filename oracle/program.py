@@ -1,5 +1,5 @@
 #!/usr/bin/env python3
-"""program.py COMMAND ARGUMENT..: what ./twinebeetle writes to standard output, by paper.py and document 01's pack; its status too.
+"""program.py COMMAND ARGUMENT..: what ./twinebeetle writes to standard output, by paper.py and packs.py; its status too.
 
 The words of the refusals are docs/FORMAT.md's.
 """
@@ -8,11 +8,12 @@ import re
 import sys
 from pathlib import Path
 
+import packs
 import paper
 
 FORMAT = Path(__file__).resolve().parent.parent / "docs" / "FORMAT.md"
 LINES, BITS = {*range(4, 14), *range(23, 26)}, range(18, 22)
-BOUNDARY_WIDTH = 4
+NOT_SCALAR, LAST_SCALAR, SURROGATES = 14, 0x10FFFF, range(0xD800, 0xE000)
 
 
 class Stop(Exception):
@@ -47,6 +48,11 @@ def reading_of(path):
     return judged(path, data, paper.sized_char_def(data))
 
 
+def unpacked(path):
+    data = content(path)
+    return judged(path, data, packs.read(data))
+
+
 def spelled(text):
     """Control characters and backslashes by their number."""
     return re.sub(r"[\x00-\x1f\\\x7f]", lambda found: f"\\x{ord(found[0]):02X}", text)
@@ -62,21 +68,77 @@ def check(path):
     return f"{path}: accepted: {counts}, {r.references()} references, {r.name_bytes()} name bytes\n"
 
 
-def show(path):
-    r = reading_of(path)
+def shown(r):
     lines = [f"category {number} {spelled(name)}" for number, name in enumerate(r.names)]
     lines += [f"definition {number}{numbers(definition)}" for number, definition in enumerate(r.definitions)]
     lines += [f"range {low:04X} {high:04X}{numbers(row)}" for low, high, row in r.ranges]
+    lines += [f"row {boundary:04X}{numbers(r.at(boundary))}" for boundary in r.boundaries()]
     return "".join(line + "\n" for line in lines)
 
 
-COMMANDS = {"check": check, "show": show}
+def show(path):
+    return shown(reading_of(path))
+
+
+def unpack(path):
+    return shown(unpacked(path))
+
+
+def code_of(word):
+    return int(re.sub(r"^(U\+|0x)", "", word, flags=re.I), 16)
+
+
+def is_scalar(code):
+    return code <= LAST_SCALAR and code not in SURROGATES
+
+
+def at_code(r, word):
+    code = code_of(word)
+    if not is_scalar(code):
+        return refused(word, NOT_SCALAR)
+    return f"U+{code:04X} {' '.join(spelled(r.names[number]) for number in r.at(code)) or '-'}\n".encode()
+
+
+def at(path, *words):
+    """A code that is no scalar value is refused by itself: the others are answered."""
+    r = reading_of(path)
+    written = b"".join(at_code(r, word) for word in words)
+    if not all(is_scalar(code_of(word)) for word in words):
+        raise Stop(written)
+    return written.decode()
+
+
+def pack(path, to):
+    """The pack itself is written beside what is said: to standard output nothing else."""
+    data = packs.packed(packs.fields(reading_of(path)))
+    if to == "-":
+        return data
+    Path(to).write_bytes(data)
+    return f"{to}: packed: {len(data)} bytes\n"
+
+
+def entry_line(number, names, line):
+    name, values, details = paper.unk_entry(line)
+    known = spelled(name) if name in names else "-"
+    shown_details = ",".join(map(spelled, details.decode().split("\0")))
+    return f"entry {number} {known} {values.replace(':', ' ')}{' ' if details else ''}{shown_details}\n"
+
+
+def unk(path, unk_path):
+    names = reading_of(path).names
+    data = content(unk_path)
+    judged(unk_path, data, paper.sized_unk(names, data))
+    return "".join(entry_line(number, names, line) for number, line in enumerate(paper.unk_lines(data.decode())))
+
+
+COMMANDS = {"check": check, "show": show, "at": at, "pack": pack, "unpack": unpack, "unk": unk}
 
 
 def main():
     command, *arguments = sys.argv[1:]
     try:
-        sys.stdout.buffer.write(COMMANDS[command](*arguments).encode())
+        written = COMMANDS[command](*arguments)
+        sys.stdout.buffer.write(written if isinstance(written, bytes) else written.encode())
     except Stop as stop:
         sys.stdout.buffer.write(stop.args[0])
         return 1

@@ -164,6 +164,48 @@ def spliced(data, change):
     return data[:at] + come + data[at + gone:]
 
 
+# Files in the manner of the published dictionaries, of which pieces are damaged.
+
+
+def real_files(ending):
+    """The lines of each, with their ends."""
+    paths = [FOLDER.parent / "samples" / ending, *sorted((FOLDER / "real").glob("*." + ending))]
+    return [path.read_bytes().splitlines(keepends=True) for path in paths]
+
+
+def real_text(random, files):
+    """Some lines that follow one another, now and then behind some others, or a whole file."""
+    lines = random.of(files)
+    if random.below(60) == 0:
+        return b"".join(lines)
+    return (lines_of(random, lines) if random.below(3) == 0 else b"") + lines_of(random, lines)
+
+
+def lines_of(random, lines):
+    first = random.below(len(lines))
+    return b"".join(lines[first:first + 1 + random.below(12)])
+
+
+# Raw bytes: any, such as the rules care about, any characters, and tokens in any order.
+
+
+def raw(random, some, tokens=TOKENS):
+    kind = random.below(8)
+    if kind == 0:
+        return random.bytes(random.below(40))
+    if kind < 4:
+        return random.bytes(random.below(60)).translate((some * 256)[:256])
+    if kind == 4:
+        return "".join(character(random) for _ in range(random.below(12))).encode()
+    return noise(random, tokens)
+
+
+def character(random):
+    """Any scalar value, by the length of its UTF-8."""
+    code = random.below(random.of([0x80, 0x800, 0x3100, 0x10000, 0x110000]))
+    return chr(code) if code < 0xD800 or code > 0xDFFF else "0x41"
+
+
 def noise(random, tokens=TOKENS):
     return b"".join(random.of(tokens if random.below(80) else ILL_FORMED) for _ in range(random.below(24)))
 

@@ -1,6 +1,6 @@
 //! The words that requests and answers are made of.
 
-use std::fmt::Display;
+use std::fmt::{self, Display};
 use std::str::FromStr;
 
 use lindera::dictionary::character_definition::CategoryId;
@@ -79,4 +79,41 @@ pub fn code(word: &str) -> Option<u32> {
 
 pub fn name(word: &str) -> Option<String> {
     String::from_utf8(bytes(word)?).ok()
+}
+
+/// FNV-1a of 32 bits over what is added, eight hex digits.
+pub struct Fnv(u32);
+
+impl Fnv {
+    pub fn new() -> Self {
+        Self(2_166_136_261)
+    }
+
+    pub fn add(&mut self, bytes: &[u8]) {
+        for byte in bytes {
+            self.0 = (self.0 ^ u32::from(*byte)).wrapping_mul(16_777_619);
+        }
+    }
+
+    /// Two bytes, the least first.
+    fn half(&mut self, number: usize) {
+        let half = u16::try_from(number).expect("lengths and categories have 16 bits");
+        self.add(&half.to_le_bytes());
+    }
+
+    pub fn numbers(&mut self, row: &[CategoryId]) {
+        row.iter().for_each(|id| self.half(id.0));
+    }
+
+    /// A row's length, and its numbers.
+    pub fn row(&mut self, row: &[CategoryId]) {
+        self.half(row.len());
+        self.numbers(row);
+    }
+}
+
+impl Display for Fnv {
+    fn fmt(&self, to: &mut fmt::Formatter) -> fmt::Result {
+        write!(to, "{:08x}", self.0)
+    }
 }

@@ -1,6 +1,7 @@
 //! Reads requests, one a line, and answers each with one line. README.md has the protocol.
 
 mod answer;
+mod laid;
 mod request;
 mod verdict;
 

@@ -8,7 +8,8 @@ use lindera::dictionary::unknown_dictionary::{UnknownDictionary, parse_unk};
 use lindera::util::read_file_with_encoding;
 use lindera::viterbi::WordEntry;
 
-use crate::answer::{bytes, code, hex, items, joined, list, name, number, row};
+use crate::answer::{Fnv, bytes, code, hex, items, joined, list, name, number, row};
+use crate::laid;
 use crate::verdict::{Failure, attempt, reading, unless_panic};
 
 /// Both sides are the line to answer; the second one is where an answer ended early.
@@ -39,9 +40,13 @@ fn dispatch(words: &[&str]) -> Answer {
         ["eval", word, codes] => eval(&builder(word)?, codes),
         ["flat", word] => Ok(flat(&builder(word)?.character_definition())),
         ["lookup", word, codes] => lookup(&builder(word)?.character_definition(), codes),
+        ["sums", word] => Ok(sums(&builder(word)?.character_definition())),
         ["names", word, numbers, names] => {
             numbered(&builder(word)?.character_definition(), numbers, names)
         }
+        ["counts", word] => Ok(format!("ok {}", counts(&builder(word)?))),
+        ["laid", word, codes] => laid(&builder(word)?, codes),
+        ["laidunk", names, word, numbers] => laid_unk(&unknown(names, word)?, numbers),
         ["unk", names, word] => Ok(unk(&unknown(names, word)?)),
         ["words", names, word, numbers] => unk_words(&unknown(names, word)?, numbers),
         _ => known(None),
@@ -168,6 +173,32 @@ fn lookup(definition: &CharacterDefinition, codes: &str) -> Answer {
     Ok(format!("ok {}", list(found)))
 }
 
+/// Stands in the sum over lookups for a number that is no `char`; no row is so long.
+const NO_CHAR: u16 = 0xFFFF;
+
+/// The sum over the rows of all BMP code points, and that over the flat table.
+fn sums(definition: &CharacterDefinition) -> String {
+    let mut rows = Fnv::new();
+    for code in 0..=0xFFFF {
+        match char::from_u32(code) {
+            Some(c) => rows.row(definition.lookup_categories(c)),
+            None => rows.add(&NO_CHAR.to_le_bytes()),
+        }
+    }
+    let mut flat = Fnv::new();
+    let index = definition.flat_index();
+    index
+        .iter()
+        .for_each(|entry| flat.add(&entry.to_le_bytes()));
+    flat.numbers(definition.flat_pool());
+    let flat = if index.is_empty() {
+        "-".into()
+    } else {
+        flat.to_string()
+    };
+    format!("ok {rows} {flat}")
+}
+
 fn place(packed: Option<(u32, u16)>) -> String {
     packed.map_or("-".into(), |(offset, length)| format!("{offset}+{length}"))
 }
@@ -192,6 +223,30 @@ fn numbered(whole: &CharacterDefinition, numbers: &str, names: &str) -> Answer {
         id.map_or("-".into(), |id| id.0.to_string())
     });
     Ok(format!("ok {} {}", list(named), list(found)))
+}
+
+fn counts(builder: &CharacterDefinitionBuilder) -> String {
+    joined(laid::counts(builder), ":", "-")
+}
+
+fn laid(builder: &CharacterDefinitionBuilder, codes: &str) -> Answer {
+    let codes = known(items(codes, code))?;
+    let whole = builder.character_definition();
+    let rows = whole.mapping.rows().iter().map(Vec::len);
+    let longest = rows.clone().max().unwrap_or(0);
+    Ok(format!(
+        "ok {} {longest} {} {} {}",
+        counts(builder),
+        rows.sum::<usize>(),
+        hex(&laid::reading(builder).0),
+        hex(&laid::rows(&whole, &codes).0)
+    ))
+}
+
+fn laid_unk(unknown: &UnknownDictionary, numbers: &str) -> Answer {
+    let numbers: Vec<u32> = known(items(numbers, number))?;
+    let bytes = laid::unknown(unknown, &numbers).0;
+    Ok(format!("ok {} {}", unknown.costs.len(), hex(&bytes)))
 }
 
 fn unk(unknown: &UnknownDictionary) -> String {

@@ -1,6 +1,8 @@
-// Our side of oracle/compare --unk: reads pairs of a char.def and an unk.def from standard input, each behind its length in four bytes, and writes the
-// answer to each unk.def in the form of oracle/README.md: number and place, then counts and the used parts of the tables; 255 and a table's
-// number where memory is not as document 01 says, 254 where the char.def is refused.
+// Our side of oracle/compare --unk: reads a char.def, an unk.def and numbers from standard input, each behind its length in four bytes, and so on, and
+// writes the answer to each unk.def in the form of oracle/README.md: number and place, then counts and the used parts of the tables, then what
+// stands under each number; 255 and a table's number where memory is not as document 01 says, 254 where the char.def is refused.
+mod words;
+
 use batch::FAULT;
 use batch::FILL;
 use batch::GUARD;
@@ -34,6 +36,9 @@ const DETAILS: usize = 65536 + GUARD;
 const PLACES: usize = 2048 + GUARD;
 
 const MEMBERS: usize = 8192 + GUARD;
+
+// Bytes of numbers.
+const NUMBER_ROOM: usize = 4096;
 
 // The number that says: there is no reading to read over.
 const NO_READING: u64 = 254;
@@ -130,6 +135,7 @@ fn put_counts(c: UnkCounts, categories: usize, members: usize) {
 
 fn put_answer(
     answer: UnkOutcome,
+    numbers: &[u8],
     categories: usize,
     entries: &[u8],
     offsets: &[u8],
@@ -155,12 +161,23 @@ fn put_answer(
             put_part(details, u.details);
             put_part(places, u.places);
             put_part(members, u.members);
+            words::put_all(
+                numbers,
+                categories,
+                c.entries,
+                entries,
+                offsets,
+                details,
+                places,
+                members,
+            );
         }
     }
 }
 
 fn answer<'a>(
     text: &[u8],
+    numbers: &[u8],
     counts: Counts,
     names: &'a [u8],
     categories: &'a [u8],
@@ -189,6 +206,7 @@ fn answer<'a>(
     );
     put_answer(
         found,
+        numbers,
         counts.categories,
         entries,
         offsets,
@@ -200,6 +218,7 @@ fn answer<'a>(
 
 fn answer_over<'a>(
     text: &[u8],
+    numbers: &[u8],
     counts: Counts,
     names: &'a [u8],
     categories: &'a [u8],
@@ -214,6 +233,7 @@ fn answer_over<'a>(
     let mut members = [FILL; MEMBERS];
     answer(
         text,
+        numbers,
         counts,
         names,
         categories,
@@ -228,7 +248,7 @@ fn answer_over<'a>(
     );
 }
 
-fn answer_one(char_def: &[u8], text: &[u8]) {
+fn answer_one(char_def: &[u8], text: &[u8], numbers: &[u8]) {
     let mut names = [0u8; NAMES];
     let mut categories = [0u8; CATEGORIES];
     let mut definitions = [0u8; DEFINITIONS];
@@ -248,6 +268,7 @@ fn answer_one(char_def: &[u8], text: &[u8]) {
         Outcome::Accepted(counts) => {
             answer_over(
                 text,
+                numbers,
                 counts,
                 &names,
                 &categories,
@@ -261,32 +282,42 @@ fn answer_one(char_def: &[u8], text: &[u8]) {
 
 // ---- records
 
-fn next_text(char_def: &[u8], room: &mut [u8]) -> bool {
+fn next_numbers(char_def: &[u8], text: &[u8], room: &mut [u8]) -> bool {
     match batch::next_record(room) {
         Record::End => false,
         Record::Text(size) => {
             let n = batch::least(room, size);
-            answer_one(char_def, &room[..n]);
+            answer_one(char_def, text, &room[..n]);
             true
         }
     }
 }
 
-fn next_pair(char_room: &mut [u8], room: &mut [u8]) -> bool {
+fn next_text(char_def: &[u8], room: &mut [u8], number_room: &mut [u8]) -> bool {
+    match batch::next_record(room) {
+        Record::End => false,
+        Record::Text(size) => {
+            let n = batch::least(room, size);
+            next_numbers(char_def, &room[..n], number_room)
+        }
+    }
+}
+
+fn next_three(char_room: &mut [u8], room: &mut [u8], number_room: &mut [u8]) -> bool {
     match batch::next_record(char_room) {
         Record::End => false,
         Record::Text(size) => {
             let n = batch::least(char_room, size);
-            next_text(&char_room[..n], room)
+            next_text(&char_room[..n], room, number_room)
         }
     }
 }
 
 // Nothing says that input ends, so the loop counts its turns down from a number that no run uses up.
-fn answer_all(char_room: &mut [u8], room: &mut [u8]) {
+fn answer_all(char_room: &mut [u8], room: &mut [u8], number_room: &mut [u8]) {
     let mut left = u64::MAX;
     while 0 < left {
-        if !next_pair(char_room, room) {
+        if !next_three(char_room, room, number_room) {
             return;
         }
         left -= 1;
@@ -296,5 +327,6 @@ fn answer_all(char_room: &mut [u8], room: &mut [u8]) {
 fn main() {
     let mut char_room = [0u8; TEXT_ROOM];
     let mut room = [0u8; TEXT_ROOM];
-    answer_all(&mut char_room, &mut room);
+    let mut number_room = [0u8; NUMBER_ROOM];
+    answer_all(&mut char_room, &mut room, &mut number_room);
 }

@@ -15,7 +15,7 @@ use Rattle.paper.proofs.Tables.Append.{padded-length}
 use Rattle.paper.proofs.Tables.Trip.{tables-is}
 use Rattle.name.specs.Slots.{written}
 use Rattle.name.proofs.Written.{written-room}
-use Rattle.char_def.specs.Steps.{Memory, Held}
+use Rattle.entry.specs.Steps.{Memory, Held}
 use Rattle.room.specs.Sized.{noTables, AcceptedInto}
 use Rattle.char_def.specs.Lines.{WalkEnded}
 use Rattle.char_def.proofs.Text.{held-nothing}

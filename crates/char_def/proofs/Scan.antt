@@ -15,6 +15,7 @@ use Rattle.paper.specs.Lists.{until, cut, push}
 use Rattle.paper.specs.Text.Scalar.{lf}
 use Rattle.paper.specs.CharDef.Reading.{isLF}
 use Rattle.paper.proofs.Lists.Parts.{take-part}
+use Rattle.entry.proofs.Inside.{until-length}
 use Rattle.char_def.specs.Lines.{linesFrom}
 
 -- ---- the scan
@@ -93,14 +94,6 @@ module _ {A : Type 0} (p : A → Bool) where
       go : (b : Bool) → until p xs ≡ take (length (until p xs)) xs → cond b [] (x ∷ until p xs) ≡ take (length (cond b [] (x ∷ until p xs))) (x ∷ xs)
       go true h = refl
       go false h = ap (λ l. x ∷ l) h
-
-  pub until-length : (l : List A) → length (until p l) ≤ length l
-  until-length [] = omega arith
-  until-length (x ∷ l) = go (p x) (until-length l)
-    where
-      go : (b : Bool) → length (until p l) ≤ length l → length (cond b [] (x ∷ until p l)) ≤ suc (length l)
-      go true h = omega arith
-      go false h = omega arith
 
 -- ---- the lines from a place on
 

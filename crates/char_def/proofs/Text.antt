@@ -10,9 +10,9 @@ use Rattle.paper.specs.CharDef.Reading.{Reading, nameBytes, references}
 use Rattle.paper.specs.Computed.ReadText.{Step, go-on, stop, afterLine, verdict, readLines, nothingRead}
 use Rattle.paper.specs.Tables.Layout.{nameSlots, rangeSlots, definitionSize, rangeSlotSize, referenceSize}
 use Rattle.paper.specs.Tables.Lent.{padded}
-use Rattle.char_def.specs.Steps.{Held}
+use Rattle.entry.specs.Steps.{Held}
 use Rattle.char_def.specs.Lines.{readBytes}
-use Rattle.char_def.proofs.Inside.{verdict-bytes}
+use Rattle.entry.proofs.Inside.{verdict-bytes}
 
 -- lines as bytes read as the paper reads their characters
 pub read-bytes : (k : ℕ) (css : List (List ℕ)) (r : Reading) → readBytes k (map utf8 css) r ≡ readLines k css r

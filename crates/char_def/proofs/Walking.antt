@@ -20,7 +20,7 @@ use Rattle.paper.proofs.Tables.Trip.{places-length, rows-length, numbers-length
 use Rattle.line.specs.Marks.{lineBytes}
 use Rattle.line.specs.Asked.{Inside}
 use Rattle.name.specs.Slots.{slotWord}
-use Rattle.char_def.specs.Steps.{Memory, Held, Working, Went, enterFoundBytes}
+use Rattle.entry.specs.Steps.{Memory, Held, Working, Went, enterFoundBytes}
 use Rattle.char_def.specs.Lines.{readBytes, readAll, linesFrom, WalkEnded}
 use Rattle.char_def.proofs.Scan.{lines-all, lines-none, lines-next, end-inside}
 

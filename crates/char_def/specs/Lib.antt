@@ -1,4 +1,3 @@
--- What the functions of `char_def` promise: the steps below a line, the lines of a text, and the reader itself.
-pub mod Steps
+-- What the functions of `char_def` promise: the lines of a text, and the reader itself.
 pub mod Lines
 pub mod Parse

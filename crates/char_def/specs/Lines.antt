@@ -15,7 +15,7 @@ use Rattle.line.specs.Marks.{lineBytes}
 use Rattle.room.specs.Sized.{AcceptedInto}
 use Rattle.char_def.specs.declared.Walk.{Walk}
 use Rattle.char_def.specs.declared.Walk.the-variants.{Ended, Stopped}
-use Rattle.char_def.specs.Steps.{Memory, Held, enterFoundBytes}
+use Rattle.entry.specs.Steps.{Memory, Held, enterFoundBytes}
 
 -- lines as bytes, from line k, entered behind a reading
 unfoldable pub readBytes : ℕ → List (List ℕ) → Reading → Answer

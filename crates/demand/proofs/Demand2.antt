@@ -1,22 +1,19 @@
--- Demand 2's lookups: what the builders leave of a reading's tables is what the lookups' promises ask, and a text's tables are its reading's.
+-- Demand 2's lookups: what the builders leave of a reading's tables is what the lookups' promises ask.
 -- Assumes nothing.
 use Prim.Native.Nat.{ℕ}
-use mathlib.Core.Path.{_≡_, refl, sym, ap, _∙_, subst}
+use mathlib.Core.Path.{_≡_, refl}
 use mathlib.Core.List.{List, []}
 use mathlib.Core.Option.{some}
-use Rattle.paper.specs.CharDef.Reading.{Reading, Fits}
+use Rattle.paper.specs.CharDef.Reading.{Reading}
 use Rattle.paper.specs.Rows.Lookup as found
 use Rattle.paper.specs.Rows.Lookup.{LookupTables, AsBuilt}
-use Rattle.paper.specs.Tables.Layout.{Tables, countsOf}
+use Rattle.paper.specs.Tables.Layout.{Tables}
 use Rattle.paper.specs.Computed.HandedIn.{handedIn}
 use Rattle.paper.specs.declared.Counts.{Counts}
-use Rattle.paper.specs.declared.Outcome.the-variants.{Accepted}
 use Rattle.row.proofs.Promise.{rows-left}
 use Rattle.flat.proofs.Promise.{flat-left}
 use Rattle.lookup.proofs.Promise as lookup
 use Rattle.demand.specs.Demand2.{FlatToo, no-flat, with-flat, BuiltOver, indexOf, flatOf, lookupTables, LooksUp, FindsByNumber}
-use Rattle.demand.specs.Demand3.{Run}
-use Rattle.demand.proofs.Demand3.{demand3}
 
 as-built : (q : Reading) (t : LookupTables) → AsBuilt q t → LooksUp q t
 as-built q t b =
@@ -47,13 +44,3 @@ finds-by-number t n q e =
       name-known = lookup.name-some t n q e;
       defined = lookup.defined t n q e;
     }
-
--- END TO END: from the bytes of an accepted char.def through `parse`, the builders and `lookup_categories` to the covering rule over the one reading
--- that fits those bytes
-pub from-text : (text : List ℕ) (run : Run text) (n : Counts) → run .outcome ≡ Accepted n → (b : BuiltOver (run .left) n)
-    → (q : Reading) × Fits text q × LooksUp q (lookupTables b) × FindsByNumber q (run .left) n
-from-text text run n a b =
-    let d = demand3 text run in
-    let (q, f, c) = d .accepted-exactly n .0 a in
-    let e : handedIn (run .left) n ≡ some q = subst (λ m. handedIn (run .left) m ≡ some q) (sym c) (d .in-the-tables q f) in
-    (q, f, looks-up (run .left) n q e b, finds-by-number (run .left) n q e)

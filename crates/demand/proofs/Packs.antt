@@ -25,8 +25,6 @@ use Rattle.paper.proofs.Pack.Trip.{pack-is, write-read, read-write}
 use Rattle.paper.proofs.Tables.Holds.{handed-exactly, handed-inverse}
 use Rattle.room.proofs.Promise as promise
 use Rattle.packer.proofs.Promise as writer
-use Rattle.demand.specs.Demand2.{BuiltOver, lookupTables, LooksUp, FindsByNumber}
-use Rattle.demand.proofs.Demand2.{looks-up, finds-by-number}
 use Rattle.demand.specs.Packs.{Unpacked, Written, packIn, ReadsPacks, OutAndBack, WithinLimit, BackAndOut}
 
 module _ (pack : List ℕ) (bytes : T (all isByte pack)) (run : Unpacked pack) where
@@ -71,12 +69,3 @@ module _ (t : Tables) (n : Counts) (b : OfBytes t) (w : Written t n) where
         accepted = promise.accepted-exactly (run .room) (run .promised) n .1 (q, a, sym (h .counted));
         same-tables = ap (λ m. used m (run .left)) (sym (h .counted)) ∙ sym u ∙ h .laid-out;
       }
-
--- END TO END: from the bytes of an accepted pack through `read_pack`, the builders and `lookup_categories` to the covering rule over the one reading
--- that has this pack
-pub from-pack : (pack : List ℕ) → T (all isByte pack) → (run : Unpacked pack) (n : Counts) → run .outcome ≡ Accepted n → (b : BuiltOver (run .left) n)
-    → (q : Reading) × PackRules q × (packBytes q ≡ pack) × LooksUp q (lookupTables b) × FindsByNumber q (run .left) n
-from-pack pack bytes run n a b =
-    let (q, k, p, c) = accepted-so pack bytes run n .0 a in
-    let e : handedIn (run .left) n ≡ some q = subst (λ m. handedIn (run .left) m ≡ some q) (sym c) (in-the-tables pack bytes run q k p) in
-    (q, k, p, looks-up (run .left) n q e b, finds-by-number (run .left) n q e)

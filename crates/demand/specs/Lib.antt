@@ -4,3 +4,4 @@ pub mod Demand2
 pub mod Packs
 pub mod Unk
 pub mod Demand3
+pub mod EndToEnd

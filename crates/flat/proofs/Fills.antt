@@ -21,13 +21,13 @@ use Rattle.paper.proofs.Lists.Facts.{joined-length}
 use Rattle.paper.proofs.Rows.Rising.{risingFrom, ascending-rising}
 use Rattle.paper.proofs.Rows.Search.{found-one}
 use Rattle.paper.proofs.Rows.Flat.{part-inside}
-use Rattle.row.specs.Next.{noBoundary, endsOf, boundaryAfter}
-use Rattle.row.specs.Slots.{slotsGot, coversGot}
-use Rattle.row.specs.Stamps.{stamped, Rowed}
+use Rattle.walk.specs.Next.{noBoundary, endsOf, boundaryAfter}
+use Rattle.walk.specs.Slots.{slotsGot, coversGot}
+use Rattle.walk.specs.Stamps.{stamped, Rowed}
 use Rattle.row.specs.Walked.{boundariesOf, rowOf, rowsOf, Clean}
-use Rattle.row.proofs.Walk.{onward}
-use Rattle.row.proofs.Notes.{length-stamps, sets-append}
-use Rattle.row.proofs.FirstSeen.{stamps-old}
+use Rattle.walk.proofs.Walk.{onward}
+use Rattle.walk.proofs.Notes.{length-stamps, sets-append}
+use Rattle.walk.proofs.FirstSeen.{stamps-old}
 use Rattle.row.proofs.Fills.{walk-begins, walk-goes, walk-ends, walk-rises, row-is}
 use Rattle.flat.specs.Built.{FlatRoom}
 use Rattle.flat.specs.Walked.{Spread, Buildable, EntryAt, FlatFilled}
@@ -177,9 +177,11 @@ module _ (ranges references : List ℕ) (count : ℕ) (ds : List ℕ) (w : Build
   unfolding boundariesOf
   rises = ascending-rising (0 ∷ endsOf (slotsGot 0 count ranges))
 
-  pub walk-start : Clean seen₀
-      → Filling (rowOf ds (slotsGot 0 count ranges) references) (boundariesOf (slotsGot 0 count ranges)) seen₀ lent seen₀ lent 0 0 0
-  walk-start h = filling-start _ _ seen₀ lent h (walk-begins ranges references count ds (w .one) (w .readable))
+  pub walk-start : (b : ℕ) → b ≡ 0 → Clean seen₀
+      → Filling (rowOf ds (slotsGot 0 count ranges) references) (boundariesOf (slotsGot 0 count ranges)) seen₀ lent seen₀ lent b 0 0
+  walk-start b z h =
+      subst (λ x. Filling (rowOf ds (slotsGot 0 count ranges) references) (boundariesOf (slotsGot 0 count ranges)) seen₀ lent seen₀ lent x 0 0) (sym z)
+      (filling-start _ _ seen₀ lent h (walk-begins ranges references count ds (w .one) (w .readable)))
 
   module _ (seen : List ℕ) (now : FlatRoom) (b rows at : ℕ)
       (h : Filling (rowOf ds (slotsGot 0 count ranges) references) (boundariesOf (slotsGot 0 count ranges)) seen₀ lent seen now b rows at)

@@ -6,15 +6,16 @@ use paper::MAX_CATEGORIES;
 use paper::Refusal;
 use paper::TABLE_ROOM_SHORT;
 use paper::TABLES_APART;
-use row::Fallback;
-use row::NO_BOUNDARY;
+use walk::Fallback;
+use walk::NEAR_BYTES;
+use walk::NO_BOUNDARY;
 ghost use mathlib.Core.Path.{_≡_};
 ghost use Prim.Native.Nat.{_+_, _*_, _≤_};
 ghost use lib.ListN.{length};
 ghost use Rattle.paper.specs.Sizes.{bmpSize, maxRowPlaces};
 ghost use Rattle.paper.specs.Rows.Flat.{entryOf};
-ghost use Rattle.row.specs.Slots.{slotsGot};
-ghost use Rattle.row.specs.Fallback.{fallbackRow};
+ghost use Rattle.walk.specs.Slots.{slotsGot};
+ghost use Rattle.walk.specs.Fallback.{fallbackRow};
 ghost use Rattle.row.specs.Walked.{boundariesOf, rowsOf, Clean};
 ghost use Rattle.flat.specs.Built.{BuildsFlat};
 ghost use Rattle.flat.specs.Walked.{smaller, Spread, Buildable, FlatFilled, BuildsOf};
@@ -68,32 +69,35 @@ fn fill_flat(
     count: usize,
     fallback: Fallback,
     seen: &mut [u32],
+    near: &mut [u8],
     index: &mut [u32],
     pool: &mut [u16],
 )
     requires { ⌜ Buildable (now ranges) (now references) count (fallbackRow fallback) × (Clean (now seen) × (length (now index) ≤ bmpSize)) ⌝ }
     ensures { λ _. ⌜ FlatFilled (boundariesOf (slotsGot 0 count (now (ranges .entry)))) (rowsOf (fallbackRow fallback) (slotsGot 0 count (now (ranges .entry))) (now (references .entry))) (record { index = now (index .entry); pool = now (pool .entry) }) (record { index = now (index .exit); pool = now (pool .exit) }) ⌝ }
 {
-    let mut b: u32 = 0;
+    let mut w = walk::open_window(ranges, count, 0, near);
     let mut rows: u32 = 0;
     let mut at: usize = 0;
-    while b < NO_BOUNDARY {
-        let end = row::covering(
+    while w.at < NO_BOUNDARY {
+        let end = walk::covering_near(
             ranges,
             references,
             count,
+            near,
+            w,
             fallback,
-            b,
             seen,
             rows + 1,
             pool,
             at,
         );
-        let next = row::next_boundary(ranges, count, b);
-        spread(index, b as usize, next as usize, entry_of(at, end - at));
+        let next = walk::step_on(ranges, count, near, w);
+        let entry = entry_of(at, end - at);
+        spread(index, w.at as usize, next.at as usize, entry);
         at = end;
         rows += 1;
-        b = next;
+        w = next;
     }
 }
 
@@ -110,7 +114,17 @@ fn fill_fresh(
     ensures { λ _. ⌜ FlatFilled (boundariesOf (slotsGot 0 count (now (ranges .entry)))) (rowsOf (fallbackRow fallback) (slotsGot 0 count (now (ranges .entry))) (now (references .entry))) (record { index = now (index .entry); pool = now (pool .entry) }) (record { index = now (index .exit); pool = now (pool .exit) }) ⌝ }
 {
     let mut seen = [0u32; MAX_CATEGORIES];
-    fill_flat(ranges, references, count, fallback, &mut seen, index, pool);
+    let mut near = [0u8; NEAR_BYTES];
+    fill_flat(
+        ranges,
+        references,
+        count,
+        fallback,
+        &mut seen,
+        &mut near,
+        index,
+        pool,
+    );
 }
 
 // The flat table of two tables; 16, then 17, before anything is written.

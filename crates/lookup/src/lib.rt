@@ -11,8 +11,10 @@ use table::GROUP_AT;
 use table::INVOKE_AT;
 use table::NAME_LENGTH_AT;
 ghost use mathlib.Core.Path.{_≡_};
+ghost use mathlib.Core.Bool.{true};
 ghost use Prim.Native.Nat.{_+_, _<_};
 ghost use lib.ListN.{length, getD};
+ghost use Rattle.paper.specs.Sizes.{bmpSize};
 ghost use Rattle.paper.specs.Text.Scalar.{isScalar};
 ghost use Rattle.paper.specs.Rows.Lookup.{fromZero, packedAt};
 ghost use Rattle.paper.specs.Rows.Numbers.{lookupDefinition, categoryName};
@@ -239,20 +241,12 @@ pub fn lookup_categories<'a>(
     }
 }
 
-// The part of the flat pool that holds the categories of a code point; absent beyond the BMP or with an empty index.
-pub fn lookup_categories_packed(flat_index: &[u32], c: u32) -> PackedFound
+// The part of the flat pool that the index names for a scalar value of the BMP; absent with an empty index.
+fn packed_in(flat_index: &[u32], c: u32) -> PackedFound
+    requires { ⌜ (isScalar c ≡ true) × (c < bmpSize) ⌝ }
     ensures { λ r. ⌜ r ≡ packed (packedAt (now («flat_index» .entry)) c) ⌝ }
 {
-    if !is_scalar(c) {
-        return PackedFound::Refused(Refusal {
-            number: NOT_SCALAR,
-            place: 0,
-        });
-    }
     let at = c as usize;
-    if BMP_SIZE <= at {
-        return PackedFound::Absent;
-    }
     if flat_index.len() == 0 {
         return PackedFound::Absent;
     }
@@ -267,6 +261,27 @@ pub fn lookup_categories_packed(flat_index: &[u32], c: u32) -> PackedFound
         offset: entry / OFFSET_UNIT,
         len: (entry % OFFSET_UNIT) as u16,
     })
+}
+
+// The part of the flat pool that holds the categories of a code point; absent beyond the BMP or with an empty index. What stands below the surrogates,
+// as most characters do, needs no other test.
+pub fn lookup_categories_packed(flat_index: &[u32], c: u32) -> PackedFound
+    ensures { λ r. ⌜ r ≡ packed (packedAt (now («flat_index» .entry)) c) ⌝ }
+{
+    if c < FIRST_SURROGATE {
+        return packed_in(flat_index, c);
+    }
+    if !is_scalar(c) {
+        return PackedFound::Refused(Refusal {
+            number: NOT_SCALAR,
+            place: 0,
+        });
+    }
+    let at = c as usize;
+    if BMP_SIZE <= at {
+        return PackedFound::Absent;
+    }
+    packed_in(flat_index, c)
 }
 
 // One category of the flat pool, for whoever keeps a packed part.

@@ -29,9 +29,12 @@ use Rattle.paper.proofs.Tables.Trip.{tables-is, wide-definition}
 use Rattle.field.specs.Cursor.{rest}
 use Rattle.room.specs.Sized.{noTables, AcceptedInto}
 use Rattle.pack.specs.declared.Head.{Head}
-use Rattle.pack.specs.Parts.{maxPlace, HeadIn, Fills, Two, Ranged, RangesIn, Stored, NamesIn}
+use Rattle.pack_field.specs.Parts.{maxPlace, Fills}
+use Rattle.pack_names.specs.Names.{Stored, NamesIn}
+use Rattle.pack_ranges.specs.Ranges.{Two, Ranged, RangesIn}
+use Rattle.pack.specs.Parts.{HeadIn}
 use Rattle.pack.specs.Whole.{HeadFits, tailWidth, bodyWidth, readTail, TailIn, TailIs, BodyIn, BodyIs}
-use Rattle.pack.proofs.Steps.{go-on, stop, fails, passes}
+use Rattle.pack_field.proofs.Steps.{go-on, stop, fails, passes}
 
 -- ---- tables that hold zero
 

@@ -15,8 +15,9 @@ use Rattle.paper.specs.Computed.ReadPack.{FieldStep, gave, broke, number, field
 use Rattle.field.specs.Cursor.{rest, fieldAt}
 use Rattle.pack.specs.declared.HeadRead.{HeadRead}
 use Rattle.pack.specs.declared.HeadRead.the-variants.{Read, Refused}
-use Rattle.pack.specs.Parts.{maxPlace, lastWidth, countsWidth, readLast, HeadIn, HeadIs}
-use Rattle.pack.proofs.Steps.{go-on, stop, Behind, behind, alike, cut, keeps, breaks}
+use Rattle.pack_field.specs.Parts.{maxPlace}
+use Rattle.pack.specs.Parts.{lastWidth, countsWidth, readLast, HeadIn, HeadIs}
+use Rattle.pack_field.proofs.Steps.{go-on, stop, Behind, behind, alike, cut, keeps, breaks}
 
 -- a count within its limit
 up-to : (w limit at : ℕ) (s : List ℕ) → number w (countRule limit 0) at s ≡ number w (upTo limit) at s

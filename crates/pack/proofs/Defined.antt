@@ -14,8 +14,9 @@ use Rattle.paper.specs.Tables.Lent.{patch}
 use Rattle.paper.proofs.Tables.Laws.{patch-in, patch-length}
 use Rattle.paper.proofs.Tables.Append.{patch-patch}
 use Rattle.field.specs.Cursor.{rest, fieldAt}
-use Rattle.pack.specs.Parts.{maxPlace, DefinitionIn}
-use Rattle.pack.proofs.Steps.{go-on, stop, behind, cut, keeps}
+use Rattle.pack_field.specs.Parts.{maxPlace}
+use Rattle.pack.specs.Parts.{DefinitionIn}
+use Rattle.pack_field.proofs.Steps.{go-on, stop, behind, cut, keeps}
 
 abbrev At : List ℕ → (w at v to : ℕ) → Type 0
 At p w at v to = gave v to (rest p to) ≡ fieldAt p at w

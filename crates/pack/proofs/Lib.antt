@@ -1,10 +1,5 @@
-pub mod Steps
 pub mod Counting
 pub mod Defined
-pub mod Fill
-pub mod Ranging
-pub mod Names
-pub mod Naming
 pub mod Padding
 pub mod Body
 pub mod Promise

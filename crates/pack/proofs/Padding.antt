@@ -15,7 +15,7 @@ use Rattle.paper.proofs.Apart.{broke-gave, short-taken}
 use Rattle.field.specs.Cursor.{lastPlace, rest, fieldAt}
 use Rattle.field.proofs.Bridge.{unpack-size, field-there}
 use Rattle.field.proofs.Promise.{field-took, field-on}
-use Rattle.pack.specs.Parts.{maxPlace}
+use Rattle.pack_field.specs.Parts.{maxPlace}
 
 zero-step : (high b : ℕ) → eqb 0 (high * 2 + b) ≡ (eqb 0 high && eqb 0 b)
 zero-step zero zero = refl

@@ -17,11 +17,12 @@ use Rattle.paper.specs.declared.Outcome.the-variants.{Accepted, Refused}
 use Rattle.field.specs.Cursor.{rest}
 use Rattle.room.specs.Sized.{AcceptedInto}
 use Rattle.pack.specs.declared.Head.{Head}
-use Rattle.pack.specs.declared.PartRead.{PartRead}
-use Rattle.pack.specs.declared.PartRead.the-variants as part
-use Rattle.pack.specs.declared.CountRead.{CountRead}
-use Rattle.pack.specs.declared.CountRead.the-variants as count
-use Rattle.pack.specs.Parts.{maxPlace, Two, Ranged}
+use Rattle.pack_field.specs.declared.PartRead.{PartRead}
+use Rattle.pack_field.specs.declared.PartRead.the-variants as part
+use Rattle.pack_field.specs.declared.CountRead.{CountRead}
+use Rattle.pack_field.specs.declared.CountRead.the-variants as count
+use Rattle.pack_field.specs.Parts.{maxPlace}
+use Rattle.pack_ranges.specs.Ranges.{Two, Ranged}
 
 -- ---- behind the names
 

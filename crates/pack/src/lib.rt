@@ -1,20 +1,20 @@
 // The pack's reader. Fields are read one after another by the bit cursor, and each is judged before anything is done with it: a count of the
 // head only says how often a loop may go round, and every turn reads its own fields. Nothing is sized by the head.
-use field::BOUND_WIDTH;
 use field::BYTE_WIDTH;
 use field::BitCursor;
 use field::CATEGORIES_WIDTH;
-use field::COUNT_WIDTH;
 use field::FLAG_WIDTH;
 use field::Field;
 use field::LENGTH_WIDTH;
 use field::LINES_WIDTH;
-use field::NAME_LENGTH_WIDTH;
-use field::NUMBER_WIDTH;
 use field::RANGES_WIDTH;
 use field::REFERENCES_WIDTH;
-use field::Run;
 use field::VERSION_WIDTH;
+use pack_field::CountRead;
+use pack_field::PartRead;
+use pack_field::limited;
+use pack_names::read_names;
+use pack_ranges::read_ranges;
 use paper::Counts;
 use paper::MAX_CATEGORIES;
 use paper::MAX_CATEGORY_LINES;
@@ -31,34 +31,25 @@ use room::CATEGORIES_SIZE;
 use room::DEFINITIONS_SIZE;
 use room::RANGES_SIZE;
 use room::REFERENCES_SIZE;
-use table::CATEGORY_BYTES;
-use table::COUNT_AT;
 use table::DEFINITION_BYTES;
-use table::FIRST_AT;
 use table::GROUP_AT;
 use table::INVOKE_AT;
-use table::NAME_LENGTH_AT;
-use table::RANGE_BYTES;
-use table::REFERENCE_BYTES;
-use table::UPPER_AT;
 ghost use mathlib.Core.Path.{_≡_};
-ghost use Prim.Native.Nat.{_+_, _*_, _-_, _≤_, _<_};
+ghost use Prim.Native.Nat.{_+_, _*_, _≤_};
 ghost use mathlib.Core.List.{[]};
-ghost use lib.Dec.{ltb};
-ghost use lib.ListN.{length, take, drop, set};
-ghost use Rattle.paper.specs.Sizes.{maxCategories, maxNameBytes, maxCategoryLines, maxRanges, maxReferences};
-ghost use Rattle.paper.specs.Numbers.Bytes.{le};
-ghost use Rattle.paper.specs.Pack.Fields.{flag, byteWidth, nameLengthWidth, boundWidth, numberWidth, definitionWidth, rangeWidth, headWidth};
-ghost use Rattle.paper.specs.Pack.Rules.{isBound};
-ghost use Rattle.paper.specs.Computed.ReadPack.{number, countRule, isPadding, many, readDefinition, readRange, readRanges, readNames, readFields, readCounted, readPack};
-ghost use Rattle.paper.specs.Tables.Layout.{inRoom, definitionBytes, slotBytes, nameSlotBytes, definitionSize, rangeSlotSize, referenceSize, nameSlotSize};
+ghost use lib.ListN.{length};
+ghost use Rattle.paper.specs.Sizes.{maxCategories, maxCategoryLines};
+ghost use Rattle.paper.specs.Pack.Fields.{flag, definitionWidth, headWidth};
+ghost use Rattle.paper.specs.Computed.ReadPack.{isPadding, many, readDefinition, readFields, readCounted, readPack};
+ghost use Rattle.paper.specs.Tables.Layout.{inRoom, definitionBytes, definitionSize};
 ghost use Rattle.paper.specs.Tables.Lent.{patch, padded};
 ghost use Rattle.paper.specs.Tables.Reader.{Reads};
-ghost use Rattle.hold.specs.Mark.{mark};
-ghost use Rattle.field.specs.Cursor.{widest, rest, said};
+ghost use Rattle.field.specs.Cursor.{rest};
 ghost use Rattle.room.specs.Sized.{Sized, noTables, ReadInto};
 ghost use Rattle.pack.specs.Whole.{HeadFits, tailWidth, bodyWidth, TailIs, BodyIs, Fill};
-ghost use Rattle.pack.specs.Parts.{maxPlace, DefinitionIs, Filled, HeadIs, lastWidth, countsWidth, meant, readLast, BoundsAre, RangeIs, Ranged, RangesAre, Stored, Naming, KeptIs, TakesName, ReadsName, NamesAre};
+ghost use Rattle.pack_field.specs.Parts.{maxPlace, Filled};
+ghost use Rattle.pack_ranges.specs.Ranges.{Ranged};
+ghost use Rattle.pack.specs.Parts.{DefinitionIs, HeadIs, lastWidth, countsWidth, meant, readLast};
 
 // "Head: version": the one that is read.
 const VERSION: u32 = 1;
@@ -85,90 +76,6 @@ pub struct Head {
 pub enum HeadRead {
     Read(Head, BitCursor),
     Refused(Refusal),
-}
-
-// A range without its category numbers.
-pub struct Bounds {
-    pub lower: u16,
-    pub upper: u16,
-    pub count: usize,
-}
-
-pub enum BoundsRead {
-    Read(Bounds, BitCursor),
-    Refused(Refusal),
-}
-
-// The cursor behind a part that went into its table.
-pub enum PartRead {
-    Read(BitCursor),
-    Refused(Refusal),
-}
-
-// How many of its kind a part has, with the cursor behind it: a name's or all names' bytes, a range's or all ranges' references.
-pub enum CountRead {
-    Read(usize, BitCursor),
-    Refused(Refusal),
-}
-
-// ---- fields with a rule
-
-// A field that, with what is used already, stays within a limit.
-fn limited(pack: &[u8], from: BitCursor, width: usize, used: usize, limit: usize) -> Field
-    requires { ⌜ (from .at ≤ maxPlace) × ((1 ≤ width) × (width ≤ widest)) ⌝ }
-    requires { ⌜ used ≤ maxReferences ⌝ }
-    ensures { λ r. ⌜ said (now (pack .entry)) r ≡ number width (countRule limit used) (from .at) (rest (now (pack .entry)) (from .at)) ⌝ }
-{
-    match from.field(pack, width) {
-        Field::Refused(r) => Field::Refused(r),
-        Field::Value(v, next) => {
-            if limit < used + v as usize {
-                return Field::Refused(Refusal {
-                    number: PACK_RULE,
-                    place: from.at,
-                });
-            }
-            Field::Value(v, next)
-        }
-    }
-}
-
-// A category number, which is below the number of categories.
-fn known_field(pack: &[u8], from: BitCursor, known: usize) -> Field
-    requires { ⌜ from .at ≤ maxPlace ⌝ }
-    ensures { λ r. ⌜ said (now (pack .entry)) r ≡ number numberWidth (λ c. ltb c known) (from .at) (rest (now (pack .entry)) (from .at)) ⌝ }
-{
-    match from.field(pack, NUMBER_WIDTH) {
-        Field::Refused(r) => Field::Refused(r),
-        Field::Value(v, next) => {
-            if known <= v as usize {
-                return Field::Refused(Refusal {
-                    number: PACK_RULE,
-                    place: from.at,
-                });
-            }
-            Field::Value(v, next)
-        }
-    }
-}
-
-// A bound of a range: not D800 to DFFF, FEFF or FFFE.
-fn bound_field(pack: &[u8], from: BitCursor) -> Field
-    requires { ⌜ from .at ≤ maxPlace ⌝ }
-    ensures { λ r. ⌜ said (now (pack .entry)) r ≡ number boundWidth isBound (from .at) (rest (now (pack .entry)) (from .at)) ⌝ }
-{
-    match from.field(pack, BOUND_WIDTH) {
-        Field::Refused(r) => Field::Refused(r),
-        Field::Value(v, next) => {
-            if !hold::is_bound(v as u16) {
-                return Field::Refused(Refusal {
-                    number: PACK_RULE,
-                    place: from.at,
-                });
-            }
-            Field::Value(v, next)
-        }
-    }
 }
 
 // ---- the head
@@ -296,290 +203,6 @@ fn read_definitions(pack: &[u8], from: BitCursor, n: usize, definitions: &mut [u
         }
     }
     PartRead::Read(BitCursor { at })
-}
-
-// ---- ranges
-
-// A range's bounds and its count, which with the references so far stays within the head's total.
-fn read_bounds(pack: &[u8], from: BitCursor, known: usize, total: usize, used: usize) -> BoundsRead
-    requires { ⌜ from .at + rangeWidth ≤ maxPlace ⌝ }
-    requires { ⌜ (used ≤ total) × (total ≤ maxReferences) ⌝ }
-    ensures { λ r. ⌜ BoundsAre (now (pack .entry)) (from .at) known total used (readRange known total used (from .at) (rest (now (pack .entry)) (from .at))) r ⌝ }
-{
-    match bound_field(pack, from) {
-        Field::Refused(r) => BoundsRead::Refused(r),
-        Field::Value(lower, second) => match bound_field(pack, second) {
-            Field::Refused(r) => BoundsRead::Refused(r),
-            Field::Value(upper, third) => match limited(pack, third, COUNT_WIDTH, used, total) {
-                Field::Refused(r) => BoundsRead::Refused(r),
-                Field::Value(count, next) => BoundsRead::Read(
-                    Bounds {
-                        lower: lower as u16,
-                        upper: upper as u16,
-                        count: count as usize,
-                    },
-                    next,
-                ),
-            },
-        },
-    }
-}
-
-// So many category numbers, into the reference table behind those that are used.
-fn read_references(
-    pack: &[u8],
-    from: BitCursor,
-    n: usize,
-    known: usize,
-    references: &mut [u8],
-    used: usize,
-) -> PartRead
-    requires { ⌜ from .at + numberWidth * n ≤ maxPlace ⌝ }
-    requires { ⌜ referenceSize * used + referenceSize * n ≤ length (now references) ⌝ }
-    requires { ⌜ (known ≤ maxCategories) × (used + n ≤ maxReferences) ⌝ }
-    ensures { λ r. ⌜ Filled (le referenceSize) (many n (number numberWidth (λ c. ltb c known)) (from .at) (rest (now (pack .entry)) (from .at))) (from .at) numberWidth n (referenceSize * used) (now (pack .entry)) (now (references .entry)) (now (references .exit)) r ⌝ }
-{
-    let mut at = from.at;
-    let mut i = 0;
-    while i < n {
-        match known_field(pack, BitCursor { at }, known) {
-            Field::Refused(r) => return PartRead::Refused(r),
-            Field::Value(v, next) => {
-                table::put_u16(references, REFERENCE_BYTES * (used + i), v as u16);
-                at = next.at;
-                i += 1;
-            }
-        }
-    }
-    PartRead::Read(BitCursor { at })
-}
-
-// Entry i of the range table.
-fn put_range(ranges: &mut [u8], i: usize, lower: u16, upper: u16, first: u16, count: u16)
-    requires { ⌜ rangeSlotSize * i + rangeSlotSize ≤ length (now ranges) ⌝ }
-    ensures { λ _. ⌜ now (ranges .exit) ≡ patch (rangeSlotSize * i) (slotBytes (record { lower = lower; upper = upper; first = first; count = count })) (now (ranges .entry)) ⌝ }
-{
-    let at = RANGE_BYTES * i;
-    table::put_u16(ranges, at, lower);
-    table::put_u16(ranges, at + UPPER_AT, upper);
-    table::put_u16(ranges, at + FIRST_AT, first);
-    table::put_u16(ranges, at + COUNT_AT, count);
-}
-
-// A range with its category numbers, into the two tables.
-fn read_range(
-    pack: &[u8],
-    from: BitCursor,
-    known: usize,
-    total: usize,
-    ranges: &mut [u8],
-    i: usize,
-    references: &mut [u8],
-    used: usize,
-) -> CountRead
-    requires { ⌜ from .at + rangeWidth + numberWidth * (total - used) ≤ maxPlace ⌝ }
-    requires { ⌜ (known ≤ maxCategories) × ((used ≤ total) × (total ≤ maxReferences)) ⌝ }
-    requires { ⌜ (rangeSlotSize * i + rangeSlotSize ≤ length (now ranges)) × (referenceSize * total ≤ length (now references)) ⌝ }
-    ensures { λ r. ⌜ RangeIs (now (pack .entry)) (from .at) (readRange known total used (from .at) (rest (now (pack .entry)) (from .at))) total i used (record { ranges = now (ranges .entry); references = now (references .entry) }) (record { ranges = now (ranges .exit); references = now (references .exit) }) r ⌝ }
-{
-    match read_bounds(pack, from, known, total, used) {
-        BoundsRead::Refused(r) => CountRead::Refused(r),
-        BoundsRead::Read(b, behind) => {
-            match read_references(pack, behind, b.count, known, references, used) {
-                PartRead::Refused(r) => CountRead::Refused(r),
-                PartRead::Read(next) => {
-                    put_range(ranges, i, b.lower, b.upper, used as u16, b.count as u16);
-                    CountRead::Read(b.count, next)
-                }
-            }
-        }
-    }
-}
-
-// So many ranges, into the two tables; how many references they have.
-fn read_ranges(
-    pack: &[u8],
-    from: BitCursor,
-    n: usize,
-    known: usize,
-    total: usize,
-    ranges: &mut [u8],
-    references: &mut [u8],
-) -> CountRead
-    requires { ⌜ from .at + rangeWidth * n + numberWidth * total ≤ maxPlace ⌝ }
-    requires { ⌜ (known ≤ maxCategories) × ((n ≤ maxRanges) × (total ≤ maxReferences)) ⌝ }
-    requires { ⌜ Ranged [] (record { ranges = now ranges; references = now references }) ⌝ }
-    ensures { λ r. ⌜ RangesAre (now (pack .entry)) (from .at) (readRanges n known total 0 (from .at) (rest (now (pack .entry)) (from .at))) total n (record { ranges = now (ranges .exit); references = now (references .exit) }) r ⌝ }
-{
-    let mut at = from.at;
-    let mut used = 0;
-    let mut i = 0;
-    while i < n {
-        match read_range(
-            pack,
-            BitCursor { at },
-            known,
-            total,
-            ranges,
-            i,
-            references,
-            used,
-        ) {
-            CountRead::Refused(r) => return CountRead::Refused(r),
-            CountRead::Read(count, next) => {
-                at = next.at;
-                used += count;
-                i += 1;
-            }
-        }
-    }
-    CountRead::Read(used, BitCursor { at })
-}
-
-// ---- names
-
-// Slot i of the category table, and the name's mark.
-fn place_name(
-    names: &[u8],
-    categories: &mut [u8],
-    marks: &mut [u32],
-    i: usize,
-    start: usize,
-    len: usize,
-)
-    requires { ⌜ (nameSlotSize * i + nameSlotSize ≤ length (now categories)) × (i < length (now marks)) ⌝ }
-    requires { ⌜ (start + len ≤ length (now names)) × (start + len ≤ maxNameBytes) ⌝ }
-    ensures { λ _. ⌜ (now (categories .exit) ≡ patch (nameSlotSize * i) (nameSlotBytes (record { start = start; len = len })) (now (categories .entry))) × (now (marks .exit) ≡ set (now (marks .entry)) i (mark (take len (drop start (now (names .entry)))))) ⌝ }
-{
-    let at = CATEGORY_BYTES * i;
-    table::put_u16(categories, at, start as u16);
-    table::put_u16(categories, at + NAME_LENGTH_AT, len as u16);
-    let end = start + len;
-    marks[i] = hold::mark_of(&names[start..end]);
-}
-
-// The last of the names is well-formed UTF-8 and none of those before it.
-fn name_kept<'a>(
-    names: &'a [u8],
-    categories: &'a [u8],
-    marks: &'a [u32],
-    i: usize,
-    start: usize,
-    len: usize,
-) -> bool
-    requires { ⌜ Naming (record { names = now names; categories = now categories; marks = now marks }) (i + 1) (start + len) ⌝ }
-    ensures { λ r. ⌜ KeptIs (record { names = now (names .entry); categories = now (categories .entry); marks = now (marks .entry) }) i start len r ⌝ }
-{
-    let end = start + len;
-    if !hold::is_formed(&names[start..end]) {
-        return false;
-    }
-    hold::is_new(names, categories, marks, i)
-}
-
-// A name's bytes, one field, into the store behind the others.
-fn take_name<'a>(
-    pack: &[u8],
-    from: BitCursor,
-    len: usize,
-    names: &'a mut [u8],
-    categories: &'a mut [u8],
-    marks: &'a mut [u32],
-    i: usize,
-    used: usize,
-) -> CountRead
-    requires { ⌜ from .at + byteWidth * len ≤ maxPlace ⌝ }
-    requires { ⌜ (i < maxCategories) × ((1 ≤ len) × (used + len ≤ maxNameBytes)) ⌝ }
-    requires { ⌜ Naming (record { names = now names; categories = now categories; marks = now marks }) i used ⌝ }
-    ensures { λ r. ⌜ TakesName (now (pack .entry)) (from .at) len (record { names = now (names .entry); categories = now (categories .entry); marks = now (marks .entry) }) (record { names = now (names .exit); categories = now (categories .exit); marks = now (marks .exit) }) i used r ⌝ }
-{
-    match from.bytes(pack, len, names, used) {
-        Run::Refused(r) => CountRead::Refused(r),
-        Run::Copied(next) => {
-            place_name(names, categories, marks, i, used, len);
-            if !name_kept(names, categories, marks, i, used, len) {
-                return CountRead::Refused(Refusal {
-                    number: PACK_RULE,
-                    place: from.at,
-                });
-            }
-            CountRead::Read(len, next)
-        }
-    }
-}
-
-// A name behind the others: its length, at least 1 and within the bytes that are left, then its bytes.
-fn read_name<'a>(
-    pack: &[u8],
-    from: BitCursor,
-    names: &'a mut [u8],
-    categories: &'a mut [u8],
-    marks: &'a mut [u32],
-    i: usize,
-    used: usize,
-) -> CountRead
-    requires { ⌜ from .at + nameLengthWidth + byteWidth * (maxNameBytes - used) ≤ maxPlace ⌝ }
-    requires { ⌜ (i < maxCategories) × (used ≤ maxNameBytes) ⌝ }
-    requires { ⌜ Naming (record { names = now names; categories = now categories; marks = now marks }) i used ⌝ }
-    ensures { λ r. ⌜ ReadsName (now (pack .entry)) (from .at) (record { names = now (names .entry); categories = now (categories .entry); marks = now (marks .entry) }) (record { names = now (names .exit); categories = now (categories .exit); marks = now (marks .exit) }) i used r ⌝ }
-{
-    match from.field(pack, NAME_LENGTH_WIDTH) {
-        Field::Refused(r) => CountRead::Refused(r),
-        Field::Value(v, next) => {
-            let len = v as usize;
-            if len == 0 {
-                return CountRead::Refused(Refusal {
-                    number: PACK_RULE,
-                    place: from.at,
-                });
-            }
-            if MAX_NAME_BYTES - used < len {
-                return CountRead::Refused(Refusal {
-                    number: PACK_RULE,
-                    place: from.at,
-                });
-            }
-            take_name(pack, next, len, names, categories, marks, i, used)
-        }
-    }
-}
-
-// So many names, into their two tables; how many bytes they have. A name is compared with those before it by a mark of its bytes first.
-fn read_names(
-    pack: &[u8],
-    from: BitCursor,
-    n: usize,
-    names: &mut [u8],
-    categories: &mut [u8],
-) -> CountRead
-    requires { ⌜ from .at + nameLengthWidth * n + byteWidth * maxNameBytes ≤ maxPlace ⌝ }
-    requires { ⌜ n ≤ maxCategories ⌝ }
-    requires { ⌜ Stored [] (now names) (now categories) 0 0 ⌝ }
-    ensures { λ r. ⌜ NamesAre (now (pack .entry)) (from .at) (readNames n 0 [] (from .at) (rest (now (pack .entry)) (from .at))) (now (names .exit)) (now (categories .exit)) n r ⌝ }
-{
-    let mut marks = [0u32; MAX_CATEGORIES];
-    let mut at = from.at;
-    let mut used = 0;
-    let mut i = 0;
-    while i < n {
-        match read_name(
-            pack,
-            BitCursor { at },
-            names,
-            categories,
-            &mut marks,
-            i,
-            used,
-        ) {
-            CountRead::Refused(r) => return CountRead::Refused(r),
-            CountRead::Read(len, next) => {
-                at = next.at;
-                used += len;
-                i += 1;
-            }
-        }
-    }
-    CountRead::Read(used, BitCursor { at })
 }
 
 // ---- the whole

@@ -4,12 +4,6 @@ use Prim.Native.Nat.{ℕ}
 use mathlib.Core.List.{List, [], _∷_}
 use mathlib.Core.Option.{Option, none, some}
 use Rattle.paper.specs.Rows.Lookup.{Looked, gives, refuses}
-use Rattle.row.specs.declared.Fallback.{Fallback}
-use Rattle.row.specs.declared.Fallback.the-variants.{Category, Nothing}
-
-abbrev pub fallbackRow : Fallback → List ℕ
-fallbackRow (Category number) = number ∷ []
-fallbackRow Nothing = []
 
 -- the row of a name that was looked for
 abbrev pub foundRow : Looked (Option ℕ) → List ℕ

@@ -16,18 +16,18 @@ ghost use Rattle.terminal.specs.Answer.{countsSize, countBytes, Exports}
 ghost use Rattle.terminal.specs.Room.{Exportable, Sixteen, Gives};
 
 // The counts of a reading, five numbers of two bytes.
-const COUNTS_SIZE: usize = 10;
+pub const COUNTS_SIZE: usize = 10;
 
-const DEFINITIONS_AT: usize = 2;
+pub const DEFINITIONS_AT: usize = 2;
 
-const RANGES_AT: usize = 4;
+pub const RANGES_AT: usize = 4;
 
-const REFERENCES_AT: usize = 6;
+pub const REFERENCES_AT: usize = 6;
 
-const BYTES_AT: usize = 8;
+pub const BYTES_AT: usize = 8;
 
 // A refusal is its number and its place times this.
-const PLACE_UNIT: u64 = 256;
+pub const PLACE_UNIT: u64 = 256;
 
 // "4 to 13, 18 to 21 and 23 to 25 leave the output room zero"
 fn is_clearing(number: u32) -> bool
@@ -54,12 +54,12 @@ fn is_clearing(number: u32) -> bool
     false
 }
 
-// What a refusal leaves of the counts.
-fn leave_counts(counts: &mut [u8], number: u32)
-    ensures { λ _. ⌜ now (counts .exit) ≡ cond (clears number) (zeroed countsSize (now (counts .entry))) (now (counts .entry)) ⌝ }
+// What a refusal leaves of counts of this size.
+pub fn leave_counts(counts: &mut [u8], size: usize, number: u32)
+    ensures { λ _. ⌜ now (counts .exit) ≡ cond (clears number) (zeroed size (now (counts .entry))) (now (counts .entry)) ⌝ }
 {
     if is_clearing(number) {
-        table::zero(counts, COUNTS_SIZE);
+        table::zero(counts, size);
         return;
     }
 }
@@ -88,7 +88,7 @@ fn give(outcome: Outcome, counts: &mut [u8]) -> u64
             0
         }
         Outcome::Refused(x) => {
-            leave_counts(counts, x.number);
+            leave_counts(counts, COUNTS_SIZE, x.number);
             x.number as u64 + PLACE_UNIT * x.place as u64
         }
     }

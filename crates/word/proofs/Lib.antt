@@ -1,1 +1,3 @@
 pub mod Words
+pub mod Entries
+pub mod Promise

@@ -45,7 +45,7 @@ module _ (bytes : ℕ) (s : Span) where
   unfolding within
   part-past h = rw (lt-ltb bytes (s .start + s .len) h)
 
-  part-there : s .start + s .len ≤ bytes → within bytes s ≡ gives s
+  pub part-there : s .start + s .len ≤ bytes → within bytes s ≡ gives s
   unfolding within
   part-there h = rw (le-ltb bytes (s .start + s .len) h)
 

@@ -1,2 +1,3 @@
 -- What the functions of `word` promise.
 pub mod Words
+pub mod Left

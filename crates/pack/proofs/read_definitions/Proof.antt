@@ -6,7 +6,7 @@ use Rattle.paper.specs.Pack.Fields.{definitionWidth}
 use Rattle.paper.specs.Computed.ReadPack.{readDefinition}
 use Rattle.paper.specs.Tables.Layout.{definitionBytes, definitionSize}
 use Rattle.paper.proofs.Tables.Trip.{wide-definition}
-use Rattle.pack.proofs.Fill.{Going, none-yet, one-more, broken-off, all-read}
+use Rattle.pack_field.proofs.Fill.{Going, none-yet, one-more, broken-off, all-read}
 use Rattle.pack.proofs.read_definitions.Statement.{statement}
 use Rattle.pack.proofs.read_definitions.Tie as tie
 

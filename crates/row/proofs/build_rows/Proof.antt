@@ -16,6 +16,9 @@ has-room-requires c κs = search needs
 slice-aggregate-fill-rows : tie.Need-slice-aggregate-fill-rows
 slice-aggregate-fill-rows c = search needs
 
+slice-aggregate-fill-rows-2 : tie.Need-slice-aggregate-fill-rows-2
+slice-aggregate-fill-rows-2 c = search needs
+
 fill-rows-requires : tie.Need-fill-rows-requires
 fill-rows-requires c κs = search needs
 
@@ -33,14 +36,9 @@ same-length-4 c = search needs
 
 returns : tie.Need-returns
 returns c =
-    let a =
-    (c .before .before .before .before .before .before .before .before .before .before .before .before .before .before .before .before .before .before .before .before .before .before .before .before .args) in
+    let a = (c .before .before .before .before .before .before .before .before .before .before .before .before .before .before .before .before .before .before .before .before .before .before .before .before .before .before .args) in
     let lent : RowRoom = record { boundaries = now (a .boundaries); starts = now (a .starts); lengths = now (a .lengths); pool = now (a .pool) } in
-    rows-made _ _ lent _ _
-    (c .before .before .before .before .before .before .before .before .before .before .before .before .before .before .before .before .before .rows-need .ensures)
-    (c .before .before .before .before .before .before .before .before .before .before .before .before .before .before .before .before .has-room .ensures) _
-    (c .before .before .before .before .before .before .before .before .before .before .before .before .before .before .before .if1 .taken)
-    (c .before .before .before .before .before .before .before .before .before .fill-rows .ensures .0)
+    rows-made _ _ lent _ _ (c .before .before .before .before .before .before .before .before .before .before .before .before .before .before .before .before .before .before .before .rows-need .ensures) (c .before .before .before .before .before .before .before .before .before .before .before .before .before .before .before .before .before .before .has-room .ensures) _ (c .before .before .before .before .before .before .before .before .before .before .before .before .before .before .before .before .before .if1 .taken) (c .before .before .before .before .before .before .before .before .before .before .fill-rows .ensures .0)
 
 returns-2 : tie.Need-returns-2
 returns-2 c =
@@ -55,6 +53,7 @@ build-rows-spec =
     rows-need-requires
     has-room-requires
     slice-aggregate-fill-rows
+    slice-aggregate-fill-rows-2
     fill-rows-requires
     same-length
     same-length-2

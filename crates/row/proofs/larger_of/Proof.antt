@@ -1,7 +1,7 @@
 -- `row::larger_of` meets its contract: both ways by the test.
 -- Assumes nothing.
 use native.Mathlib.Omega.{arith}
-use Rattle.row.proofs.Turn.{second-larger, first-larger}
+use Rattle.row.proofs.Fills.{second-larger, first-larger}
 use Rattle.row.proofs.larger_of.Statement.{statement}
 use Rattle.row.proofs.larger_of.Tie as tie
 

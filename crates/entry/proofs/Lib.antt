@@ -1,0 +1,4 @@
+-- The laws that the proofs share.
+pub mod Words
+pub mod Inside
+pub mod Entered

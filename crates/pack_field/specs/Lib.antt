@@ -1,0 +1,2 @@
+-- What the readers of a pack's parts promise alike.
+pub mod Parts

@@ -1,0 +1,2 @@
+-- What the reader of a pack's ranges promises.
+pub mod Ranges
