@@ -7,11 +7,11 @@ use mathlib.Core.List.{List, [], _∷_, map}
 use mathlib.Core.Option.{none, some}
 use lib.ListN.{replicate}
 use Rattle.paper.specs.Sizes.{bmpSize}
-use Rattle.paper.specs.Refusals.{notScalar, numberUnknown, flatRowLong, tableRoomShort, packRoomShort, tablesApart}
+use Rattle.paper.specs.Refusals.{notScalar, numberUnknown, tableRoomShort, packRoomShort, tablesApart}
 use Rattle.paper.specs.Lists.{offsetsFrom}
 use Rattle.paper.specs.CharDef.Reading.{Reading}
 use Rattle.paper.specs.Rows.Covering.{boundaries, rows}
-use Rattle.paper.specs.Rows.Flat.{entryOf, entryOffset, entryLength, rowNumber, flatEntry, entryPart, shortRows, counting, flatPool}
+use Rattle.paper.specs.Rows.Flat.{entryOf, entryOffset, entryLength, rowNumber, flatEntry, entryPart, flatPool}
 use Rattle.paper.specs.Rows.Build.{built, refusedBy, rowsBuilt, flatBuilt, packWritten}
 use Rattle.paper.specs.Rows.Lookup.{Looked, gives, refuses, LookupTables, ofFlat, ofRows, Part, lookup, packedAt}
 use Rattle.paper.specs.Rows.Numbers.{findName, lookupDefinition, categoryName}
@@ -60,10 +60,6 @@ two-lines =
       ranges = record { lower = 0x41; upper = 0x41; categories = 0 ∷ 1 ∷ [] } ∷ record { lower = 0x41; upper = 0x42; categories = 1 ∷ 2 ∷ [] } ∷ [];
     }
 
--- a range that names n categories
-unfoldable pub wide : ℕ → Reading
-wide n = record { names = []; definitions = []; ranges = record { lower = 0x41; upper = 0x41; categories = counting 0 n } ∷ [] }
-
 pub two-lines-rows : rows two-lines ≡ [] ∷ (0 ∷ 1 ∷ 2 ∷ []) ∷ (1 ∷ 2 ∷ []) ∷ [] ∷ []
 unfolding rows two-lines
 two-lines-rows = refl
@@ -88,16 +84,7 @@ pub starts : offsetsFrom 0 (rows two-lines) ≡ 0 ∷ 0 ∷ 3 ∷ 5 ∷ []
 unfolding rows two-lines
 starts = refl
 
--- 255 categories in a row, and 256
-pub short-255 : shortRows (rows (wide 255)) ≡ true
-unfolding shortRows rows wide
-short-255 = refl
-
-pub long-256 : shortRows (rows (wide 256)) ≡ false
-unfolding shortRows rows wide
-long-256 = refl
-
--- the exact need and one less, in each table; 26 before 16 before 17
+-- the exact need and one less, in each table; 26 before 17 (`examples` has 16)
 pub rows-rooms :
     rowsBuilt (some two-lines) 4 4 4 5 ∷ rowsBuilt (some two-lines) 3 4 4 5 ∷ rowsBuilt (some two-lines) 4 3 4 5 ∷ rowsBuilt (some two-lines) 4 4 3 5
     ∷ rowsBuilt (some two-lines) 4 4 4 4 ∷ rowsBuilt none 0 0 0 0 ∷ []
@@ -106,10 +93,9 @@ unfolding rowsBuilt two-lines
 rows-rooms = refl
 
 pub flat-rooms :
-    flatBuilt (some two-lines) bmpSize 5 ∷ flatBuilt (some two-lines) 65535 5 ∷ flatBuilt (some two-lines) bmpSize 4
-    ∷ flatBuilt (some (wide 256)) 0 0 ∷ flatBuilt (some (wide 255)) 0 0 ∷ flatBuilt none 0 0 ∷ []
-    ≡ built ∷ refusedBy tableRoomShort ∷ refusedBy tableRoomShort ∷ refusedBy flatRowLong ∷ refusedBy tableRoomShort ∷ refusedBy tablesApart ∷ []
-unfolding flatBuilt two-lines wide
+    flatBuilt (some two-lines) bmpSize 5 ∷ flatBuilt (some two-lines) 65535 5 ∷ flatBuilt (some two-lines) bmpSize 4 ∷ flatBuilt none 0 0 ∷ []
+    ≡ built ∷ refusedBy tableRoomShort ∷ refusedBy tableRoomShort ∷ refusedBy tablesApart ∷ []
+unfolding flatBuilt two-lines
 flat-rooms = refl
 
 -- the empty reading's pack has 7 bytes

@@ -1,11 +1,10 @@
--- Readings that keep the rules of a pack, and readings that break one each: every limit and one more, every rule on names, bounds, numbers and
--- lengths. One statement over one table, proved by computation.
+-- Readings that keep the rules of a pack, and readings that break one each: every rule on names, bounds, numbers and lengths (`examples` has the
+-- limits). One statement over one table, proved by computation.
 -- Assumes nothing.
-use Prim.Native.Nat.{ℕ, zero, suc, _+_, _/_, _%_}
+use Prim.Native.Nat.{ℕ}
 use mathlib.Core.Path.{_≡_, refl}
 use mathlib.Core.Bool.{Bool, true, false}
 use mathlib.Core.List.{List, [], _∷_, map}
-use lib.ListN.{replicate}
 use Rattle.paper.specs.CharDef.Reading.{Definition, Range, Reading}
 use Rattle.paper.specs.Computed.Rules.{keepsRules}
 
@@ -14,53 +13,29 @@ pub record RulesExample : Type 0 where
   pub keeps : Bool
 
 -- with only names, only a definition's length, only ranges, or one range without categories
-abbrev named : List (List ℕ) → Bool → RulesExample
+abbrev pub named : List (List ℕ) → Bool → RulesExample
 named ns b = record { reading = record { names = ns; definitions = []; ranges = [] }; keeps = b }
 
-abbrev defined : List Definition → Bool → RulesExample
+abbrev pub defined : List Definition → Bool → RulesExample
 defined ds b = record { reading = record { names = []; definitions = ds; ranges = [] }; keeps = b }
 
-abbrev ranged : List (List ℕ) → List Range → Bool → RulesExample
+abbrev pub ranged : List (List ℕ) → List Range → Bool → RulesExample
 ranged ns gs b = record { reading = record { names = ns; definitions = []; ranges = gs }; keeps = b }
 
-abbrev bounds : ℕ → ℕ → Bool → RulesExample
+abbrev pub bounds : ℕ → ℕ → Bool → RulesExample
 bounds l u b = ranged [] (record { lower = l; upper = u; categories = [] } ∷ []) b
 
-abbrev long : ℕ → Definition
+abbrev pub long : ℕ → Definition
 long n = record { invoke = true; group = false; len = n }
 
-abbrev refers : List ℕ → Range
+abbrev pub refers : List ℕ → Range
 refers cs = record { lower = 0x41; upper = 0x43; categories = cs }
-
--- k names of two ASCII letters, all different
-abbrev letters : ℕ → List (List ℕ)
-letters zero = []
-letters (suc k) = ((0x41 + k / 26) ∷ (0x41 + k % 26) ∷ []) ∷ letters k
 
 unfoldable pub readings : List RulesExample
 readings =
     -- nothing, and a reading with everything
     named [] true
     ∷ record { reading = record { names = ((0x41 ∷ []) ∷ (0xE3 ∷ 0x81 ∷ 0x82 ∷ []) ∷ []); definitions = (long 2 ∷ []); ranges = (refers (1 ∷ 0 ∷ 1 ∷ []) ∷ []) }; keeps = true }
-    -- 512 categories and one more
-    ∷ named (letters 512) true
-    ∷ named (letters 513) false
-    -- 16,384 name bytes and one more, in one name and in two
-    ∷ named (replicate 16384 0x41 ∷ []) true
-    ∷ named (replicate 16385 0x41 ∷ []) false
-    ∷ named ((0x42 ∷ []) ∷ replicate 16383 0x41 ∷ []) true
-    ∷ named ((0x42 ∷ []) ∷ replicate 16384 0x41 ∷ []) false
-    -- 512 category lines and one more
-    ∷ defined (replicate 512 (long 2)) true
-    ∷ defined (replicate 513 (long 2)) false
-    -- 2,048 ranges and one more
-    ∷ ranged [] (replicate 2048 (refers [])) true
-    ∷ ranged [] (replicate 2049 (refers [])) false
-    -- 8,192 references and one more, in one range and in two
-    ∷ ranged ((0x41 ∷ []) ∷ []) (refers (replicate 8192 0) ∷ []) true
-    ∷ ranged ((0x41 ∷ []) ∷ []) (refers (replicate 8193 0) ∷ []) false
-    ∷ ranged ((0x41 ∷ []) ∷ []) (refers (0 ∷ []) ∷ refers (replicate 8191 0) ∷ []) true
-    ∷ ranged ((0x41 ∷ []) ∷ []) (refers (0 ∷ []) ∷ refers (replicate 8192 0) ∷ []) false
     -- a name has bytes, well-formed ones, and stands once; what is ASCII space or LF is no matter
     ∷ named ([] ∷ []) false
     ∷ named ((0x41 ∷ []) ∷ [] ∷ []) false

@@ -8,11 +8,10 @@ use mathlib.Core.Logic.{_⊎_, inl, inr}
 use mathlib.Core.Bool.{true, false}
 use mathlib.Core.List.{List, [], _∷_, map}
 use lib.Dec.{T, leb}
-use lib.ListN.{length}
+use lib.ListN.{length, replicate}
 use mir.Facts.{and-yes, or-yes, leb-yes}
 use Rattle.paper.specs.Lists.{any, all, select}
 use Rattle.paper.specs.Text.Scalar.{between, isScalar, utf8, whites, isWhite, isSep}
-use Rattle.paper.specs.Rows.Flat.{counting}
 use Rattle.paper.specs.Computed.Decode.{broken, chars, decode}
 
 -- ---- White_Space
@@ -26,12 +25,18 @@ unicodeWhite =
 pub count-white : length unicodeWhite ≡ 25
 count-white = refl
 
--- from 0 to 3001 hex these are white, and no other
-pub white-listed : select isWhite (counting 0 0x3002) ≡ unicodeWhite
+-- these are white; the neighbours of each run and of each one alone are not (`examples`, White: no other up to 3001 hex)
+pub white-ones : map isWhite unicodeWhite ≡ replicate 25 true
 unfolding isWhite
-white-listed = refl
+white-ones = refl
 
--- and past 3000 nothing is, so that the list decides at every number
+pub white-edges :
+    map isWhite (0x08 ∷ 0x0E ∷ 0x1F ∷ 0x21 ∷ 0x84 ∷ 0x86 ∷ 0x9F ∷ 0xA1 ∷ 0x167F ∷ 0x1681 ∷ 0x1FFF ∷ 0x200B ∷ 0x2027 ∷ 0x202A ∷ 0x202E ∷ 0x2030 ∷ 0x205E ∷ 0x2060 ∷ 0x2FFF ∷ 0x3001 ∷ [])
+    ≡ replicate 20 false
+unfolding isWhite
+white-edges = refl
+
+-- past 3000 nothing is
 pub white-low : (c : ℕ) → T (isWhite c) → c ≤ 0x3000
 unfolding isWhite
 white-low c t = go whites tt t
@@ -52,10 +57,10 @@ pub not-white : map isWhite (0x180E ∷ 0x200B ∷ 0xFEFF ∷ []) ≡ false ∷ 
 unfolding isWhite
 not-white = refl
 
--- TAB, FF, CR and space; VT is none
-pub separators-listed : select isSep (counting 0 0x3002) ≡ 0x09 ∷ 0x0C ∷ 0x0D ∷ 0x20 ∷ []
+-- TAB, FF, CR and space; VT is none, nor LF
+pub separators : select isSep unicodeWhite ≡ 0x09 ∷ 0x0C ∷ 0x0D ∷ 0x20 ∷ []
 unfolding isSep
-separators-listed = refl
+separators = refl
 
 -- ---- scalar values
 

@@ -1,0 +1,3 @@
+pub mod White
+pub mod Rules
+pub mod Flat
