@@ -1,15 +1,18 @@
--- Rows of 255 categories, which a flat entry can hold, and of 256.
+-- Rows of 255 categories, which a flat entry can hold, and of 256; lookups over a whole flat table.
 -- Assumes nothing.
 use Prim.Native.Nat.{ℕ}
 use mathlib.Core.Path.{_≡_, refl}
 use mathlib.Core.Bool.{true, false}
 use mathlib.Core.List.{[], _∷_}
 use mathlib.Core.Option.{some}
-use Rattle.paper.specs.Refusals.{flatRowLong, tableRoomShort}
+use Rattle.paper.specs.Sizes.{bmpSize}
+use Rattle.paper.specs.Refusals.{flatRowLong, tableRoomShort, tablesApart}
 use Rattle.paper.specs.CharDef.Reading.{Reading}
 use Rattle.paper.specs.Rows.Covering.{rows}
 use Rattle.paper.specs.Rows.Flat.{shortRows, counting}
 use Rattle.paper.specs.Rows.Build.{refusedBy, flatBuilt}
+use Rattle.paper.specs.Rows.Lookup.{gives, refuses, ofFlat, lookup}
+use Rattle.paper.proofs.Examples.Rows.{flat-tables, part}
 
 -- a range that names n categories
 unfoldable pub wide : ℕ → Reading
@@ -28,3 +31,10 @@ long-256 = refl
 pub flat-rooms : flatBuilt (some (wide 256)) 0 0 ∷ flatBuilt (some (wide 255)) 0 0 ∷ [] ≡ refusedBy flatRowLong ∷ refusedBy tableRoomShort ∷ []
 unfolding flatBuilt wide
 flat-rooms = refl
+
+-- the flat pool for the BMP, the row pool past it
+pub flat-lookups :
+    lookup (flat-tables bmpSize 0x102) 0xFFFF 0 ∷ lookup (flat-tables bmpSize 0x102) 0x10000 0 ∷ lookup (flat-tables bmpSize 0x103) 0x41 0 ∷ []
+    ≡ gives (record { from = ofFlat; start = 1; len = 2 }) ∷ part 0 1 ∷ refuses tablesApart ∷ []
+unfolding lookup
+flat-lookups = refl

@@ -13,7 +13,7 @@ use Rattle.paper.specs.CharDef.Reading.{Reading}
 use Rattle.paper.specs.Rows.Covering.{boundaries, rows}
 use Rattle.paper.specs.Rows.Flat.{entryOf, entryOffset, entryLength, rowNumber, flatEntry, entryPart, flatPool}
 use Rattle.paper.specs.Rows.Build.{built, refusedBy, rowsBuilt, flatBuilt, packWritten}
-use Rattle.paper.specs.Rows.Lookup.{Looked, gives, refuses, LookupTables, ofFlat, ofRows, Part, lookup, packedAt}
+use Rattle.paper.specs.Rows.Lookup.{Looked, gives, refuses, LookupTables, ofRows, Part, usesFlat, lookup, packedAt}
 use Rattle.paper.specs.Rows.Numbers.{findName, lookupDefinition, categoryName}
 use Rattle.paper.proofs.Examples.CharDef.{Example, Holds, All, ex, names-at, rows-are, boundaries-are}
 
@@ -111,10 +111,10 @@ abbrev row-tables : (boundaries starts lengths pool : List ℕ) → LookupTables
 row-tables b s l p = record { index = []; flat = []; boundaries = b; starts = s; lengths = l; pool = p }
 
 -- a flat table whose entries all are e, and one row
-abbrev flat-tables : (n e : ℕ) → LookupTables
+abbrev pub flat-tables : (n e : ℕ) → LookupTables
 flat-tables n e = record { index = replicate n e; flat = 7 ∷ 8 ∷ 9 ∷ []; boundaries = 0 ∷ []; starts = 0 ∷ []; lengths = 1 ∷ []; pool = 5 ∷ [] }
 
-abbrev part : ℕ → ℕ → Looked Part
+abbrev pub part : ℕ → ℕ → Looked Part
 part start len = gives (record { from = ofRows; start = start; len = len })
 
 pub row-lookups :
@@ -136,12 +136,10 @@ pub row-lookups :
 unfolding lookup
 row-lookups = refl
 
--- the flat pool for the BMP, the row pool past it
-pub flat-lookups :
-    lookup (flat-tables bmpSize 0x102) 0xFFFF 0 ∷ lookup (flat-tables bmpSize 0x102) 0x10000 0 ∷ lookup (flat-tables bmpSize 0x103) 0x41 0 ∷ []
-    ≡ gives (record { from = ofFlat; start = 1; len = 2 }) ∷ part 0 1 ∷ refuses tablesApart ∷ []
-unfolding lookup
-flat-lookups = refl
+-- the flat pool for the BMP, the row pool past it (`examples` looks there)
+pub flat-used : map (usesFlat (flat-tables 1 0)) (0xFFFF ∷ 0x10000 ∷ []) ≡ true ∷ false ∷ []
+unfolding usesFlat
+flat-used = refl
 
 pub packed-lookups :
     packedAt (0 ∷ 0x302 ∷ []) 1 ∷ packedAt (0 ∷ 0x302 ∷ []) 0x10000 ∷ packedAt [] 1 ∷ packedAt (0 ∷ 0x302 ∷ []) 2 ∷ packedAt [] 0xDFFF ∷ []
