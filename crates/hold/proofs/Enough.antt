@@ -9,7 +9,7 @@ use Rattle.paper.specs.Computed.HandedIn.{enough}
 use Rattle.paper.specs.declared.Counts.{Counts}
 use Rattle.paper.proofs.Lists.Facts.{T→true}
 use Rattle.paper.proofs.Tables.Trip.{Enough, says}
-use Rattle.hold.proofs.Tests.{refused}
+use Rattle.table_rules.proofs.Tests.{refused}
 
 module _ (a b c d e : ℕ) (n : Counts) where
   pub not-enough : (Enough a b c d e n → ⊥) → false ≡ enough a b c d e n

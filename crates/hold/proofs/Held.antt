@@ -13,9 +13,9 @@ use Rattle.paper.specs.Tables.Layout.{Tables, pieces}
 use Rattle.paper.specs.declared.Counts.{Counts}
 use Rattle.paper.proofs.Lists.Facts.{T→true}
 use Rattle.paper.proofs.Tables.Trip.{says}
-use Rattle.hold.specs.Placed.{placedNames}
-use Rattle.hold.proofs.Placed.{placed-are}
-use Rattle.hold.proofs.Tests.{refused}
+use Rattle.name_rules.specs.Placed.{placedNames}
+use Rattle.name_rules.proofs.Placed.{placed-are}
+use Rattle.table_rules.proofs.Tests.{refused}
 
 pub record Held (t : Tables) (n : Counts) : Type 0 where
   pub long : T (enough (length (t .names)) (length (t .categories)) (length (t .definitions)) (length (t .ranges)) (length (t .references)) n)

@@ -15,8 +15,8 @@ use Rattle.paper.specs.Rows.Numbers.{nameSlotsOf, nameIn, pastStore}
 use Rattle.paper.specs.Tables.Layout.{NameSlot, nameSlotOf}
 use Rattle.paper.specs.Tables.Lent.{got}
 use Rattle.paper.proofs.Tables.Laws.{left, left-all, left-none, left-more}
-use Rattle.hold.proofs.Turn.{entry}
-use Rattle.hold.proofs.Entries.{first-got, field-got, inside}
+use Rattle.table_rules.proofs.Turn.{entry}
+use Rattle.table_rules.proofs.Entries.{first-got, field-got, inside}
 use Rattle.name.specs.declared.Found.the-variants.{At, Nothing}
 use Rattle.name.specs.Names.{Finds}
 use Rattle.name.proofs.Compare.{differs}

@@ -1,4 +1,4 @@
--- Names that stand one behind another in the store, with their slots and marks: which names `hold` finds placed there, and one name more.
+-- Names that stand one behind another in the store, with their slots and marks: which names `name_rules` finds placed there, and one name more.
 -- Assumes nothing.
 use Prim.Native.Nat.{ℕ, zero, suc, _+_, _*_, _-_, _≤_, _<_}
 use native.Mathlib.Decide.{ℕ-discrete}
@@ -23,9 +23,9 @@ use Rattle.paper.proofs.Lists.Facts.{joined-length, joined-append, map-append, 
 use Rattle.paper.proofs.Tables.Laws.{pieces-table, pieces-length, table-length}
 use Rattle.paper.proofs.Tables.Append.{patch-patch, patch-padded, padded-length, entry-more}
 use Rattle.paper.proofs.Tables.Trip.{places-length, wide-place}
-use Rattle.hold.specs.Placed.{placed, nameOf, placedNames}
-use Rattle.hold.specs.Mark.{mark, Marked}
-use Rattle.hold.proofs.Placed.{placed-snoc}
+use Rattle.name_rules.specs.Placed.{placed, nameOf, placedNames}
+use Rattle.name_rules.specs.Mark.{mark, Marked}
+use Rattle.name_rules.proofs.Placed.{placed-snoc}
 use Rattle.pack_names.specs.Names.{Store, Stored, Named, Naming}
 use Rattle.pack_field.proofs.Steps.{fails, passes}
 

@@ -17,8 +17,8 @@ use Rattle.paper.specs.Computed.ReadPack.{_▹_, give, settle, fieldOr, number,
 use Rattle.paper.specs.Computed.Rules.{formed}
 use Rattle.paper.specs.Tables.Layout.{nameSlotBytes, nameSlotSize}
 use Rattle.paper.specs.Tables.Lent.{patch}
-use Rattle.hold.specs.Mark.{mark}
-use Rattle.hold.proofs.Once.{any-snoc}
+use Rattle.name_rules.specs.Mark.{mark}
+use Rattle.name_rules.proofs.Once.{any-snoc}
 use Rattle.field.specs.Cursor.{rest, fieldAt, bytesFieldAt, CopiedTo}
 use Rattle.field.proofs.Promise.{run-on, run-size}
 use Rattle.pack_field.specs.declared.CountRead.{CountRead}

@@ -69,7 +69,7 @@ fn bound_field(pack: &[u8], from: BitCursor) -> Field
     match from.field(pack, BOUND_WIDTH) {
         Field::Refused(r) => Field::Refused(r),
         Field::Value(v, next) => {
-            if !hold::is_bound(v as u16) {
+            if !bound::is_bound(v as u16) {
                 return Field::Refused(Refusal {
                     number: PACK_RULE,
                     place: from.at,

@@ -16,8 +16,8 @@ use Rattle.paper.specs.Tables.Lent.{num, got}
 use Rattle.paper.proofs.Lists.Facts.{map-append, joined-map, sum-append}
 use Rattle.paper.specs.declared.Counts.{Counts}
 use Rattle.packer.specs.Writer.{numbersFrom, headOf}
-use Rattle.hold.proofs.Turn.{entry}
-use Rattle.hold.proofs.Entries.{first-got}
+use Rattle.table_rules.proofs.Turn.{entry}
+use Rattle.table_rules.proofs.Entries.{first-got}
 
 -- ---- one more entry
 

@@ -10,8 +10,8 @@ use Rattle.paper.specs.Lists.{joined, sum}
 use Rattle.paper.specs.Pack.Fields.{field, nameLengthWidth, byteWidth, nameFields}
 use Rattle.paper.specs.Tables.Layout.{nameSlotSize, nameLenAt, nameSlotOf, split}
 use Rattle.paper.specs.Tables.Lent.{got}
-use Rattle.hold.proofs.Turn.{entry}
-use Rattle.hold.proofs.Entries.{field-got, inside}
+use Rattle.table_rules.proofs.Turn.{entry}
+use Rattle.table_rules.proofs.Entries.{field-got, inside}
 use Rattle.packer.specs.Writer.{lengthsIn}
 use Rattle.packer.proofs.Entries.{amounts-more, amounts-sum, amounts-below, joined-snoc}
 

@@ -13,8 +13,8 @@ use Rattle.paper.specs.Tables.Layout.{RangeSlot, rangeSlotSize, referenceSize, 
 use Rattle.paper.specs.Tables.Lent.{num, got}
 use Rattle.paper.proofs.Lists.Facts.{map-append}
 use Rattle.paper.proofs.Tables.Laws.{pieces-length}
-use Rattle.hold.proofs.Turn.{entry}
-use Rattle.hold.proofs.Entries.{first-got, field-got, inside}
+use Rattle.table_rules.proofs.Turn.{entry}
+use Rattle.table_rules.proofs.Entries.{first-got, field-got, inside}
 use Rattle.packer.specs.Writer.{countsIn, numbersFrom, allNumbers}
 use Rattle.packer.proofs.Entries.{pieces-more, amounts-sum, amounts-below, joined-snoc}
 

@@ -5,7 +5,7 @@ use native.Mathlib.Omega.{arith}
 use mathlib.Core.List.{List}
 use denote.Ref.{now}
 use Rattle.paper.specs.Tables.Layout.{Tables}
-use Rattle.hold.proofs.Tests.{untrue, passed, clash}
+use Rattle.table_rules.proofs.Tests.{untrue, passed, clash}
 use Rattle.row.proofs.Default.{one-fallback}
 use Rattle.row.proofs.Meets.{few-names}
 use Rattle.flat.specs.Built.{FlatRoom}

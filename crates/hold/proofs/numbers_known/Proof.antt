@@ -8,7 +8,8 @@ use Rattle.paper.specs.Lists.{all}
 use Rattle.paper.specs.Tables.Layout.{pieces}
 use Rattle.paper.specs.Tables.Lent.{num}
 use Rattle.paper.proofs.Tables.Laws.{left}
-use Rattle.hold.proofs.Entries.{isKnown, numbers-begin, number-fails, number-goes, all-ends}
+use Rattle.table_rules.proofs.Entries.{all-ends}
+use Rattle.hold.proofs.Known.{isKnown, numbers-begin, number-fails, number-goes}
 use Rattle.hold.proofs.numbers_known.Statement.{statement}
 use Rattle.hold.proofs.numbers_known.Tie as tie
 

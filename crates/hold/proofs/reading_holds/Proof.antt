@@ -6,7 +6,7 @@ use Rattle.paper.specs.Computed.Rules.{formed}
 use Rattle.paper.specs.Pack.Rules.{once}
 use Rattle.paper.proofs.Tables.Trip.{says}
 use Rattle.hold.proofs.Held.{not-held, is-held, names-are}
-use Rattle.hold.proofs.Tests.{passed, clash}
+use Rattle.table_rules.proofs.Tests.{passed, clash}
 use borrow.Author.Needs.{needs}
 use Rattle.hold.proofs.reading_holds.Statement.{statement}
 use Rattle.hold.proofs.reading_holds.Tie as tie

@@ -2,7 +2,7 @@
 use native.Mathlib.Omega.{arith}
 use mathlib.Core.Path.{_∙_, sym}
 use borrow.Author.Tests.{not-true}
-use Rattle.hold.proofs.Tests.{passed}
+use Rattle.table_rules.proofs.Tests.{passed}
 use Rattle.packer.proofs.Handed.{asked, limited}
 use Rattle.packer.proofs.Answer.{apart, short, written}
 use borrow.Author.Needs.{needs}

@@ -1,3 +1,0 @@
--- What the functions below `reading_holds` promise.
-pub mod Placed
-pub mod Mark
