@@ -13,8 +13,8 @@ use Rattle.paper.specs.Tables.Lent.{padded}
 use Rattle.paper.specs.declared.Counts.{Counts}
 use Rattle.paper.proofs.Tables.Append.{padded-length}
 use Rattle.paper.proofs.Tables.Trip.{tables-is}
-use Rattle.name.specs.Slots.{written}
-use Rattle.name.proofs.Written.{written-room}
+use Rattle.slot.specs.Slots.{written}
+use Rattle.slot.proofs.Written.{written-room}
 use Rattle.entry.specs.Steps.{Memory, Held}
 use Rattle.room.specs.Sized.{noTables, AcceptedInto}
 use Rattle.char_def.specs.Lines.{WalkEnded}

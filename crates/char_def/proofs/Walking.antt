@@ -19,7 +19,7 @@ use Rattle.paper.proofs.Tables.Laws.{table-length}
 use Rattle.paper.proofs.Tables.Trip.{places-length, rows-length, numbers-length, wide-definition, wide-row, wide-number}
 use Rattle.line.specs.Marks.{lineBytes}
 use Rattle.line.specs.Asked.{Inside}
-use Rattle.name.specs.Slots.{slotWord}
+use Rattle.slot.specs.Slots.{slotWord}
 use Rattle.entry.specs.Steps.{Memory, Held, Working, Went, enterFoundBytes}
 use Rattle.char_def.specs.Lines.{readBytes, readAll, linesFrom, WalkEnded}
 use Rattle.char_def.proofs.Scan.{lines-all, lines-none, lines-next, end-inside}

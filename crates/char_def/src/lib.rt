@@ -116,7 +116,7 @@ fn fill_tables(
     match walk_lines(text, names, &mut slots, definitions, ranges, references) {
         Walk::Stopped(refusal) => Walk::Stopped(refusal),
         Walk::Ended(counts) => {
-            name::write_slots(&slots, categories);
+            slot::write_slots(&slots, categories);
             Walk::Ended(counts)
         }
     }

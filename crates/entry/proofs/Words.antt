@@ -25,7 +25,8 @@ use Rattle.line.specs.declared.Part.{Part}
 use Rattle.line.specs.Answer.{word-and, bytesOf, NextWord}
 use Rattle.name.specs.declared.Numbered.{Numbered}
 use Rattle.name.specs.declared.Entry.the-variants.{Number, Full}
-use Rattle.name.specs.Names.{Laid, Numbers, Enters, Room}
+use Rattle.slot.specs.Laid.{Laid}
+use Rattle.name.specs.Names.{Numbers, Enters, Room}
 use Rattle.entry.specs.declared.Names.{Names}
 use Rattle.entry.specs.Steps.{wordsOf, Ready, AllIn}
 

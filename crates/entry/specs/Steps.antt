@@ -17,7 +17,7 @@ use Rattle.paper.specs.Tables.Layout.{definitionBytes, rangeTable, referenceTab
 use Rattle.paper.specs.Tables.Lent.{patch, padded}
 use Rattle.paper.specs.declared.Counts.{Counts}
 use Rattle.line.specs.Marks.{wordsBytes, gapWidth}
-use Rattle.name.specs.Names.{Laid}
+use Rattle.slot.specs.Laid.{Laid}
 use Rattle.entry.specs.declared.Names.{Names}
 use Rattle.entry.specs.declared.NamesStep.{NamesStep}
 use Rattle.entry.specs.declared.NamesStep.the-variants.{Done, NoName}

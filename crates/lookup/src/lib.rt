@@ -1,6 +1,6 @@
 // Lookups over any lent tables: the categories of a code point, by the flat table or by rows, and definitions and names by number. No table is
 // believed: what would lie outside of one is 26.
-use name::CategoryFound;
+use by_name::CategoryFound;
 use paper::NOT_SCALAR;
 use paper::NUMBER_UNKNOWN;
 use paper::Refusal;
@@ -18,7 +18,7 @@ ghost use Rattle.paper.specs.Sizes.{bmpSize};
 ghost use Rattle.paper.specs.Text.Scalar.{isScalar};
 ghost use Rattle.paper.specs.Rows.Lookup.{fromZero, packedAt};
 ghost use Rattle.paper.specs.Rows.Numbers.{lookupDefinition, categoryName};
-ghost use Rattle.name.specs.Lookup.{FindsCategory};
+ghost use Rattle.by_name.specs.Lookup.{FindsCategory};
 ghost use Rattle.lookup.specs.Categories.{located, Locates, PartIs, packed, categoryIn, category};
 ghost use Rattle.lookup.specs.Ways.{byFlat, ofRow, ByRows};
 ghost use Rattle.lookup.specs.Numbers.{definition, name, nameHeld};
@@ -374,5 +374,5 @@ pub fn category_id_by_name(
 ) -> CategoryFound
     ensures { λ r. ⌜ FindsCategory (now (names .entry)) (now (categories .entry)) count (now (name .entry)) r ⌝ }
 {
-    name::find_category(names, categories, count, name)
+    by_name::find_category(names, categories, count, name)
 }

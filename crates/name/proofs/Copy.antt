@@ -11,7 +11,7 @@ use Rattle.paper.specs.Tables.Lent.{patch}
 use Rattle.paper.proofs.Lists.Parts.{part-length}
 use Rattle.paper.proofs.Tables.Laws.{patch-in}
 use Rattle.paper.proofs.Tables.Append.{patch-patch}
-use Rattle.name.proofs.Compare.{part-at}
+use Rattle.seek.proofs.Compare.{part-at}
 
 pub record Copying (text store₀ store : List ℕ) (start end at i : ℕ) : Type 0 where
   pub within : end ≤ length text

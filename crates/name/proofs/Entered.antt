@@ -13,8 +13,9 @@ use Rattle.paper.specs.Tables.Lent.{padded}
 use Rattle.name.specs.declared.Numbered.{Numbered}
 use Rattle.name.specs.declared.Entry.{Entry}
 use Rattle.name.specs.declared.Entry.the-variants.{Number, Full}
-use Rattle.name.specs.Slots.{slotWord}
-use Rattle.name.specs.Names.{Laid, Enters}
+use Rattle.slot.specs.Slots.{slotWord}
+use Rattle.slot.specs.Laid.{Laid}
+use Rattle.name.specs.Names.{Enters}
 
 numbered-is : (r : Numbered) (n c b : ℕ) → n ≡ r .number → c ≡ r .count → b ≡ r .bytes → _≡_ {A = Numbered} (record { number = n; count = c; bytes = b }) r
 numbered-is r n c b p q s = rw (p, q, s)

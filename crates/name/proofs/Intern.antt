@@ -20,10 +20,12 @@ use Rattle.paper.proofs.Tables.Laws.{patch-in}
 use Rattle.paper.proofs.Lists.Facts.{joined-length}
 use Rattle.paper.proofs.Tables.Append.{patch-padded, padded-length}
 use Rattle.name.specs.declared.Numbered.{Numbered}
-use Rattle.name.specs.declared.Found.the-variants.{At, Nothing}
-use Rattle.name.specs.Slots.{slotUnit, slotWord}
-use Rattle.name.specs.Names.{Laid, Finds, Numbers, Refuses}
-use Rattle.name.proofs.Laid.{slots-length}
+use Rattle.seek.specs.declared.Found.the-variants.{At, Nothing}
+use Rattle.seek.specs.Finds.{Finds}
+use Rattle.slot.specs.Slots.{slotUnit, slotWord}
+use Rattle.slot.specs.Laid.{Laid}
+use Rattle.name.specs.Names.{Numbers, Refuses}
+use Rattle.slot.proofs.Laid.{slots-length}
 
 -- ---- the paper's interning, by cases
 

@@ -1,43 +1,17 @@
--- The names that a store and its slots lay out while a text is read, and what finding and entering one promise.
+-- What entering a name promises, over a store and slots that lay out the names read so far.
 -- Assumes nothing.
 use Prim.Native.Nat.{ℕ, _≤_}
 use mathlib.Core.Path.{_≡_}
-use mathlib.Core.Bool.{true, false}
-use mathlib.Core.List.{List, _++_, map}
+use mathlib.Core.Bool.{true}
+use mathlib.Core.List.{List, _++_}
 use lib.ListN.{length}
 use Rattle.paper.specs.Sizes.{maxCategories, maxNameBytes}
-use Rattle.paper.specs.Lists.{any, same, positionOf, joined}
-use Rattle.paper.specs.CharDef.Reading.{nameBytes}
+use Rattle.paper.specs.Lists.{any, same, positionOf}
 use Rattle.paper.specs.Computed.ReadText.{internOne, names-are, full-at}
-use Rattle.paper.specs.Tables.Layout.{nameSlots}
-use Rattle.paper.specs.Tables.Lent.{padded}
-use Rattle.name.specs.Slots.{slotWord}
-use Rattle.name.specs.declared.Found.{Found}
-use Rattle.name.specs.declared.Found.the-variants.{At, Nothing}
+use Rattle.slot.specs.Laid.{Laid}
 use Rattle.name.specs.declared.Numbered.{Numbered}
 use Rattle.name.specs.declared.Entry.{Entry}
 use Rattle.name.specs.declared.Entry.the-variants.{Number, Full}
-
--- a store and slots that hold these names and no more: one behind another from 0, in order, and zero after them
-pub record Laid (names : List (List ℕ)) (store slots : List ℕ) (count bytes : ℕ) : Type 0 where
-  pub count-is : count ≡ length names
-  pub bytes-is : bytes ≡ nameBytes names
-  pub few : count ≤ maxCategories
-  pub short : bytes ≤ maxNameBytes
-  pub stored : store ≡ padded maxNameBytes (joined names)
-  pub slotted : slots ≡ padded maxCategories (map slotWord (nameSlots 0 (map length names)))
-
--- ---- finding
-
--- the lowest number with that name, or that none has it
-abbrev pub Finds : List (List ℕ) → List ℕ → Found → Type 0
-Finds names n (At i) = (any (same n) names ≡ true) × (i ≡ positionOf same n names)
-Finds names n Nothing = any (same n) names ≡ false
-
-abbrev pub FindsIn : (store slots : List ℕ) (count : ℕ) (n : List ℕ) → Found → Type 0
-FindsIn store slots count n r = (names : List (List ℕ)) (bytes : ℕ) → Laid names store slots count bytes → Finds names n r
-
--- ---- entering
 
 -- what the reader keeps: room of the full sizes, counts within them, and a part of the text
 pub record Room (store slots text : List ℕ) (count bytes start end : ℕ) : Type 0 where

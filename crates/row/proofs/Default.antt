@@ -21,9 +21,9 @@ use Rattle.paper.proofs.Lists.Facts.{T→true}
 use Rattle.paper.proofs.Rows.Lowest.{lowest-first}
 use Rattle.paper.proofs.Rows.Numbers.{name-found}
 use Rattle.paper.proofs.Tables.Laws.{pieces-length}
-use Rattle.name.specs.Lookup.{said, FindsCategory}
-use Rattle.name.specs.declared.CategoryFound.{CategoryFound}
-use Rattle.name.specs.declared.CategoryFound.the-variants.{Category}
+use Rattle.by_name.specs.Lookup.{said, FindsCategory}
+use Rattle.by_name.specs.declared.CategoryFound.{CategoryFound}
+use Rattle.by_name.specs.declared.CategoryFound.the-variants.{Category}
 use Rattle.walk.specs.Fallback.{fallbackRow}
 use Rattle.row.specs.Fallback.{foundRow}
 use Rattle.walk.specs.declared.Fallback.{Fallback}

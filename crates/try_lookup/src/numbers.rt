@@ -1,10 +1,10 @@
 // Names and definitions by number (`m`), and numbers by name (`i`), over the tables of a reading as they are handed in.
 use crate::tally;
 use crate::words;
+use by_name::CategoryFound;
 use lookup::CategoryData;
 use lookup::DefinitionFound;
 use lookup::NameFound;
-use name::CategoryFound;
 use paper::Counts;
 use replay::after_field;
 use replay::byte_at;

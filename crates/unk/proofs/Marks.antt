@@ -17,10 +17,10 @@ use Rattle.paper.proofs.Apart.{zero-one}
 use Rattle.paper.proofs.Lists.Parts.{take-part}
 use Rattle.paper.proofs.Rows.Lowest.{lowest-first}
 use Rattle.paper.proofs.Tables.Laws.{pieces-length}
-use Rattle.name.specs.Lookup.{said, FindsCategory}
+use Rattle.by_name.specs.Lookup.{said, FindsCategory}
 use Rattle.paper.specs.declared.Refusal.{Refusal}
-use Rattle.name.specs.declared.CategoryFound.{CategoryFound}
-use Rattle.name.specs.declared.CategoryFound.the-variants.{Category, Absent, Refused}
+use Rattle.by_name.specs.declared.CategoryFound.{CategoryFound}
+use Rattle.by_name.specs.declared.CategoryFound.the-variants.{Category, Absent, Refused}
 use Rattle.unk.specs.Lines.{Inside, markSaid, markIn}
 
 module _ (store table : List ℕ) (count : ℕ) (name : List ℕ) where

@@ -2,7 +2,7 @@
 -- Assumes nothing.
 use native.Mathlib.Omega.{arith}
 use Rattle.row.proofs.Default.{found-as, found-below}
-use Rattle.name.specs.declared.CategoryFound.the-variants.{Category, Absent, Refused}
+use Rattle.by_name.specs.declared.CategoryFound.the-variants.{Category, Absent, Refused}
 use borrow.Author.Needs.{needs}
 use Rattle.row.proofs.fallback_of.Statement.{statement}
 use Rattle.row.proofs.fallback_of.Tie as tie

@@ -14,11 +14,11 @@ use Rattle.paper.specs.Rows.Numbers.{nameIn}
 use Rattle.paper.specs.Tables.Layout.{nameSlots}
 use Rattle.paper.specs.Tables.Lent.{padded}
 use Rattle.paper.proofs.Tables.Trip.{places-length}
-use Rattle.name.specs.declared.Found.the-variants.{At, Nothing}
-use Rattle.name.specs.Slots.{slotUnit, slotWord, wordSlot}
-use Rattle.name.specs.Names.{Laid, FindsIn}
-use Rattle.name.proofs.Compare.{differs}
-use Rattle.name.proofs.Search.{Searching, search-start, search-hit, search-on, search-done}
+use Rattle.seek.specs.declared.Found.the-variants.{At, Nothing}
+use Rattle.slot.specs.Slots.{slotUnit, slotWord, wordSlot}
+use Rattle.slot.specs.Laid.{Laid, FindsIn}
+use Rattle.seek.proofs.Compare.{differs}
+use Rattle.seek.proofs.Search.{Searching, search-start, search-hit, search-on, search-done}
 
 -- ---- a slot and its name
 

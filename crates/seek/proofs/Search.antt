@@ -8,9 +8,9 @@ use mathlib.Core.Path.{_≡_, refl, sym, ap, _∙_, subst}
 use mathlib.Core.Bool.{true, false, cond, _||_}
 use mathlib.Core.List.{List, [], _∷_}
 use Rattle.paper.specs.Lists.{any, same, positionOf}
-use Rattle.name.specs.declared.Found.{Found}
-use Rattle.name.specs.declared.Found.the-variants.{At, Nothing}
-use Rattle.name.specs.Names.{Finds}
+use Rattle.seek.specs.declared.Found.{Found}
+use Rattle.seek.specs.declared.Found.the-variants.{At, Nothing}
+use Rattle.seek.specs.Finds.{Finds}
 
 pub record Searching (names : List (List ℕ)) (n : List ℕ) (i : ℕ) (rest : List (List ℕ)) : Type 0 where
   pub some : any (same n) rest ≡ any (same n) names

@@ -1,11 +1,11 @@
--- `name::find_placed` meets its contract: the names whose slots are left decide as all do. Assumes nothing.
+-- `by_name::find_placed` meets its contract: the names whose slots are left decide as all do. Assumes nothing.
 use Prim.Native.Nat.{_-_, _≤_}
 use native.Mathlib.Omega.{arith}
 use mathlib.Core.Path.{_≡_, refl}
 use lib.ListN.{length}
-use Rattle.name.proofs.Placed.{Placing, place-start, place-done, place-other, place-hit, place-on}
-use Rattle.name.proofs.find_placed.Statement.{statement}
-use Rattle.name.proofs.find_placed.Tie as tie
+use Rattle.by_name.proofs.Placed.{Placing, place-start, place-done, place-other, place-hit, place-on}
+use Rattle.by_name.proofs.find_placed.Statement.{statement}
+use Rattle.by_name.proofs.find_placed.Tie as tie
 
 abbrev Inv-loop : tie.InvT-loop
 Inv-loop names categories count name len i₀ i = ((i ≤ count) × (len ≡ length name)) × Placing names categories count name i

@@ -19,11 +19,11 @@ use Rattle.paper.specs.Tables.HandedIn.{HoldTogether, OfBytes}
 use Rattle.paper.specs.declared.Counts.{Counts}
 use Rattle.paper.proofs.Rows.Numbers.{name-found, name-back}
 use Rattle.paper.proofs.Tables.Holds.{handed-exactly}
-use Rattle.name.specs.declared.Found.the-variants.{At, Nothing}
-use Rattle.name.specs.declared.CategoryFound.{CategoryFound}
-use Rattle.name.specs.declared.CategoryFound.the-variants.{Category, Absent, Refused}
-use Rattle.name.specs.Names.{Finds}
-use Rattle.name.specs.Lookup.{said, placeOf, FindsCategory}
+use Rattle.seek.specs.declared.Found.the-variants.{At, Nothing}
+use Rattle.by_name.specs.declared.CategoryFound.{CategoryFound}
+use Rattle.by_name.specs.declared.CategoryFound.the-variants.{Category, Absent, Refused}
+use Rattle.seek.specs.Finds.{Finds}
+use Rattle.by_name.specs.Lookup.{said, placeOf, FindsCategory}
 
 -- ---- the cases of `find_category`
 

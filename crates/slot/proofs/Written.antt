@@ -21,9 +21,9 @@ use Rattle.paper.specs.Tables.Lent.{patch, padded}
 use Rattle.paper.proofs.Tables.Laws.{table-length, patch-in, patch-out, patch-length}
 use Rattle.paper.proofs.Tables.Append.{patch-patch, table-append, table-snoc, padded-length}
 use Rattle.paper.proofs.Tables.Trip.{wide-place}
-use Rattle.name.specs.Slots.{slotUnit, slotWord, wordSlot, written}
-use Rattle.name.specs.Names.{Laid}
-use Rattle.name.proofs.Laid.{slots-length}
+use Rattle.slot.specs.Slots.{slotUnit, slotWord, wordSlot, written}
+use Rattle.slot.specs.Laid.{Laid}
+use Rattle.slot.proofs.Laid.{slots-length}
 
 abbrev entryBytes : ℕ → List ℕ
 entryBytes s = nameSlotBytes (wordSlot s)

@@ -6,8 +6,8 @@ use mathlib.Core.List.{List}
 use mathlib.Core.Option.{Option, none, some}
 use Rattle.paper.specs.Rows.Lookup.{Looked, gives, refuses}
 use Rattle.paper.specs.Rows.Numbers.{findName}
-use Rattle.name.specs.declared.CategoryFound.{CategoryFound}
-use Rattle.name.specs.declared.CategoryFound.the-variants.{Category, Absent, Refused}
+use Rattle.by_name.specs.declared.CategoryFound.{CategoryFound}
+use Rattle.by_name.specs.declared.CategoryFound.the-variants.{Category, Absent, Refused}
 
 abbrev pub said : CategoryFound → Looked (Option ℕ)
 said (Category i) = gives (some i)

@@ -1,12 +1,12 @@
--- `name::write_slots` meets its contract: the entries of the slots so far are a patch of the table. Assumes nothing.
+-- `slot::write_slots` meets its contract: the entries of the slots so far are a patch of the table. Assumes nothing.
 use Prim.Native.Nat.{_-_}
 use native.Mathlib.Omega.{arith}
 use mathlib.Core.Path.{refl}
 use denote.Ref.{now}
 use Rattle.paper.specs.Sizes.{maxCategories}
-use Rattle.name.proofs.Written.{Writing, few-slots, no-room, write-start, write-on, write-done}
-use Rattle.name.proofs.write_slots.Statement.{statement}
-use Rattle.name.proofs.write_slots.Tie as tie
+use Rattle.slot.proofs.Written.{Writing, few-slots, no-room, write-start, write-on, write-done}
+use Rattle.slot.proofs.write_slots.Statement.{statement}
+use Rattle.slot.proofs.write_slots.Tie as tie
 
 abbrev Inv-loop : tie.InvT-loop
 Inv-loop slots categories₀ i₀ categories i = Writing maxCategories slots categories₀ categories i

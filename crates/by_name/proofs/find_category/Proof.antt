@@ -1,13 +1,13 @@
--- `name::find_category` meets its contract: by the two tests of refusal 26, then by what was found. Assumes nothing.
+-- `by_name::find_category` meets its contract: by the two tests of refusal 26, then by what was found. Assumes nothing.
 use native.Mathlib.Omega.{arith}
 use mathlib.Core.Path.{refl}
 use denote.Ref.{now}
 use borrow.Author.Needs.{needs}
-use Rattle.name.specs.declared.Found.the-variants.{At, Nothing}
-use Rattle.name.proofs.Search.{finds-as}
-use Rattle.name.proofs.Lookup.{table-short, name-past, name-there, name-absent, some-past, none-past}
-use Rattle.name.proofs.find_category.Statement.{statement}
-use Rattle.name.proofs.find_category.Tie as tie
+use Rattle.seek.specs.declared.Found.the-variants.{At, Nothing}
+use Rattle.seek.proofs.Search.{finds-as}
+use Rattle.by_name.proofs.Lookup.{table-short, name-past, name-there, name-absent, some-past, none-past}
+use Rattle.by_name.proofs.find_category.Statement.{statement}
+use Rattle.by_name.proofs.find_category.Tie as tie
 
 returns : tie.Need-returns
 returns c =

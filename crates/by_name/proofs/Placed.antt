@@ -17,10 +17,10 @@ use Rattle.paper.specs.Tables.Lent.{got}
 use Rattle.paper.proofs.Tables.Laws.{left, left-all, left-none, left-more}
 use Rattle.table_rules.proofs.Turn.{entry}
 use Rattle.table_rules.proofs.Entries.{first-got, field-got, inside}
-use Rattle.name.specs.declared.Found.the-variants.{At, Nothing}
-use Rattle.name.specs.Names.{Finds}
-use Rattle.name.proofs.Compare.{differs}
-use Rattle.name.proofs.Search.{Searching, search-start, search-hit, search-on, search-done}
+use Rattle.seek.specs.declared.Found.the-variants.{At, Nothing}
+use Rattle.seek.specs.Finds.{Finds}
+use Rattle.seek.proofs.Compare.{differs}
+use Rattle.seek.proofs.Search.{Searching, search-start, search-hit, search-on, search-done}
 
 -- the slots that a loop has left
 abbrev pub slotsLeft : List ℕ → ℕ → ℕ → List NameSlot

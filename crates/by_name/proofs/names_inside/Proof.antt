@@ -1,13 +1,13 @@
--- `name::names_inside` meets its contract: the slots that are left decide as all do. Assumes nothing.
+-- `by_name::names_inside` meets its contract: the slots that are left decide as all do. Assumes nothing.
 use Prim.Native.Nat.{_≤_, _-_}
 use native.Mathlib.Omega.{arith}
 use mathlib.Core.Path.{_≡_}
 use denote.Ref.{now}
 use Rattle.paper.specs.Lists.{any}
 use Rattle.paper.specs.Rows.Numbers.{nameSlotsOf, pastStore}
-use Rattle.name.proofs.Placed.{slotsLeft, inside-begins, inside-fails, inside-goes, inside-ends}
-use Rattle.name.proofs.names_inside.Statement.{statement}
-use Rattle.name.proofs.names_inside.Tie as tie
+use Rattle.by_name.proofs.Placed.{slotsLeft, inside-begins, inside-fails, inside-goes, inside-ends}
+use Rattle.by_name.proofs.names_inside.Statement.{statement}
+use Rattle.by_name.proofs.names_inside.Tie as tie
 
 abbrev Inv-loop : tie.InvT-loop
 Inv-loop names categories count i₀ i = (i ≤ count) × (any (pastStore names) (slotsLeft categories count i) ≡ any (pastStore names) (nameSlotsOf categories count))

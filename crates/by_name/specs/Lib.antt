@@ -1,0 +1,2 @@
+-- What finding a category by its name promises.
+pub mod Lookup

@@ -1,0 +1,3 @@
+-- The laws of comparing and of searching, for all who seek names.
+pub mod Compare
+pub mod Search

@@ -1,0 +1,2 @@
+-- What a search for a name promises.
+pub mod Finds
