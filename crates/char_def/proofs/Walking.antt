@@ -17,8 +17,8 @@ use Rattle.paper.proofs.Lists.Facts.{joined-length}
 use Rattle.paper.proofs.Tables.Append.{padded-length}
 use Rattle.paper.proofs.Tables.Laws.{table-length}
 use Rattle.paper.proofs.Tables.Trip.{places-length, rows-length, numbers-length, wide-definition, wide-row, wide-number}
-use Rattle.line.specs.Marks.{lineBytes}
-use Rattle.line.specs.Asked.{Inside}
+use Rattle.scan.specs.Asked.{Inside}
+use Rattle.line.specs.Bytes.{lineBytes}
 use Rattle.slot.specs.Slots.{slotWord}
 use Rattle.entry.specs.Steps.{Memory, Held, Working, Went, enterFoundBytes}
 use Rattle.char_def.specs.Lines.{readBytes, readAll, linesFrom, WalkEnded}

@@ -11,7 +11,7 @@ use Rattle.paper.specs.CharDef.Reading.{Reading, Answer, accepted, refused, isL
 use Rattle.paper.specs.Computed.ReadText.{afterLine, nothingRead}
 use Rattle.paper.specs.Tables.Layout.{Tables}
 use Rattle.paper.specs.declared.Counts.{Counts}
-use Rattle.line.specs.Marks.{lineBytes}
+use Rattle.line.specs.Bytes.{lineBytes}
 use Rattle.room.specs.Sized.{AcceptedInto}
 use Rattle.char_def.specs.declared.Walk.{Walk}
 use Rattle.char_def.specs.declared.Walk.the-variants.{Ended, Stopped}

@@ -16,16 +16,18 @@ use Rattle.paper.specs.CharDef.Line.{blank, category, range}
 use Rattle.paper.specs.CharDef.Reading.{Reading, references}
 use Rattle.paper.specs.Computed.ReadText.{Found, found, wrong, Step, stop, go-on, enter, enterFound, lineOf, verdict, intern, addRange}
 use Rattle.text.specs.Answers.{whiteWidth}
-use Rattle.line.specs.Marks.{marks, marksFrom, gapWidth, inGap, hashMark, lineBytes, inBytes}
+use Rattle.scan.specs.declared.Part.{Part}
+use Rattle.scan.specs.Marks.{marks, marksFrom, gapWidth, inGap, hashMark}
+use Rattle.scan.specs.Answer.{gapRun, wordRun, solid, wordPart, bodyPart}
+use Rattle.scan.specs.Asked.{Inside}
+use Rattle.line.specs.Bytes.{lineBytes, inBytes}
 use Rattle.line.proofs.LineBridge.{line-bridge}
-use Rattle.line.specs.declared.Part.{Part}
-use Rattle.line.specs.Asked.{Inside}
-use Rattle.line.specs.Answer.{gapRun, wordRun, solid, wordPart, bodyPart, Says}
-use Rattle.line.specs.declared.CategoryLine.{CategoryLine}
-use Rattle.line.specs.declared.RangeLine.{RangeLine}
-use Rattle.line.specs.declared.LineAnswer.{LineAnswer}
-use Rattle.line.specs.declared.LineAnswer.the-variants.{Read, Refused}
-use Rattle.line.specs.declared.Line.the-variants.{Blank, Category, Range}
+use Rattle.category_line.specs.Answer.{Says}
+use Rattle.category_line.specs.declared.CategoryLine.{CategoryLine}
+use Rattle.category_line.specs.declared.RangeLine.{RangeLine}
+use Rattle.category_line.specs.declared.LineAnswer.{LineAnswer}
+use Rattle.category_line.specs.declared.LineAnswer.the-variants.{Read, Refused}
+use Rattle.category_line.specs.declared.Line.the-variants.{Blank, Category, Range}
 use Rattle.paper.specs.declared.Counts.{Counts}
 use Rattle.entry.specs.declared.LineStep.{LineStep}
 use Rattle.entry.specs.declared.LineStep.the-variants.{Next, Stop}

@@ -19,10 +19,10 @@ use Rattle.paper.specs.Tables.Lent.{patch}
 use Rattle.paper.proofs.Tables.Laws.{patch-in, patch-length, table-length}
 use Rattle.paper.proofs.Tables.Trip.{wide-number}
 use Rattle.paper.proofs.Tables.Append.{patch-patch, table-snoc}
-use Rattle.line.specs.Marks.{wordsBytes, gapWidth, byte, inGap}
-use Rattle.line.proofs.Bridge.{marks-nil}
-use Rattle.line.specs.declared.Part.{Part}
-use Rattle.line.specs.Answer.{word-and, bytesOf, NextWord}
+use Rattle.scan.specs.Marks.{wordsBytes, gapWidth, byte, inGap}
+use Rattle.scan.proofs.Bridge.{marks-nil}
+use Rattle.scan.specs.declared.Part.{Part}
+use Rattle.scan.specs.Answer.{word-and, bytesOf, NextWord}
 use Rattle.name.specs.declared.Numbered.{Numbered}
 use Rattle.name.specs.declared.Entry.the-variants.{Number, Full}
 use Rattle.slot.specs.Laid.{Laid}

@@ -16,7 +16,7 @@ use Rattle.paper.specs.Numbers.Bytes.{le}
 use Rattle.paper.specs.Tables.Layout.{definitionBytes, rangeTable, referenceTable, definitionSize, rangeSlotSize, referenceSize}
 use Rattle.paper.specs.Tables.Lent.{patch, padded}
 use Rattle.paper.specs.declared.Counts.{Counts}
-use Rattle.line.specs.Marks.{wordsBytes, gapWidth}
+use Rattle.scan.specs.Marks.{wordsBytes, gapWidth}
 use Rattle.slot.specs.Laid.{Laid}
 use Rattle.entry.specs.declared.Names.{Names}
 use Rattle.entry.specs.declared.NamesStep.{NamesStep}

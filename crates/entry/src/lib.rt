@@ -1,8 +1,8 @@
 // Enters one line of char.def into five lent tables: "Lines", 9 to 13. The reader in `char_def` walks the lines of a text over it.
-use line::CategoryLine;
-use line::Line;
-use line::LineAnswer;
-use line::RangeLine;
+use category_line::CategoryLine;
+use category_line::Line;
+use category_line::LineAnswer;
+use category_line::RangeLine;
 use name::Entry;
 use paper::CATEGORY_LINES_FULL;
 use paper::Counts;
@@ -26,8 +26,8 @@ ghost use Rattle.paper.specs.CharDef.Line.{category, range};
 ghost use Rattle.paper.specs.Pack.Fields.{flag};
 ghost use Rattle.paper.specs.Tables.Layout.{definitionSize, rangeSlotSize, definitionBytes, slotBytes};
 ghost use Rattle.paper.specs.Tables.Lent.{patch};
-ghost use Rattle.line.specs.Marks.{lineBytes};
-ghost use Rattle.line.specs.Asked.{Inside};
+ghost use Rattle.scan.specs.Asked.{Inside};
+ghost use Rattle.line.specs.Bytes.{lineBytes};
 ghost use Rattle.entry.specs.Steps.{long, wordsOf, Ready, EntersAll, Working, Stepped, enterBytes, enterFoundBytes};
 
 pub struct Names {
@@ -86,7 +86,7 @@ fn count_words(text: &[u8], start: usize, end: usize) -> usize
     let mut at = start;
     let mut n = 0;
     while at < end {
-        let w = line::next_word(text, at, end, true);
+        let w = scan::next_word(text, at, end, true);
         let to = w.end;
         if to <= w.start {
             return n;
@@ -117,7 +117,7 @@ fn enter_names(
     let mut many = count;
     let mut used = bytes;
     while at < end {
-        let w = line::next_word(text, at, end, true);
+        let w = scan::next_word(text, at, end, true);
         let from = w.start;
         let to = w.end;
         if to <= from {

@@ -5,7 +5,7 @@
 use Prim.Native.Nat.{ℕ}
 use mathlib.Core.Path.{_≡_, refl, sym, ap, _∙_, subst}
 use mathlib.Core.Logic.{_↔_}
-use mathlib.Core.Bool.{Bool, true}
+use mathlib.Core.Bool.{true}
 use mathlib.Core.List.{List, map}
 use lib.ListN.{take, drop}
 use Rattle.paper.specs.Text.Scalar.{utf8}
@@ -17,16 +17,17 @@ use Rattle.paper.proofs.Apart.{zero-one}
 use Rattle.paper.proofs.CharDef.Sound.{line-sound}
 use Rattle.paper.proofs.CharDef.Complete.{line-complete}
 use Rattle.paper.proofs.CharDef.BadLine.{line-misfit}
-use Rattle.line.specs.declared.Part.{Part}
-use Rattle.line.specs.declared.Line.{Line}
-use Rattle.line.specs.declared.Line.the-variants.{Blank, Category, Range}
-use Rattle.line.specs.declared.LineAnswer.{LineAnswer}
-use Rattle.line.specs.declared.LineAnswer.the-variants.{Read, Refused}
-use Rattle.line.specs.Marks.{gapWidth, wordsBytes, lineBytes, inBytes}
-use Rattle.line.specs.Answer.{bytesOf, NextWord, Body, said, bodyPart, Placed, Says}
+use Rattle.scan.specs.declared.Part.{Part}
+use Rattle.category_line.specs.declared.Line.{Line}
+use Rattle.category_line.specs.declared.Line.the-variants.{Blank, Category, Range}
+use Rattle.category_line.specs.declared.LineAnswer.{LineAnswer}
+use Rattle.category_line.specs.declared.LineAnswer.the-variants.{Read, Refused}
+use Rattle.scan.specs.Marks.{gapWidth, wordsBytes}
+use Rattle.scan.specs.Answer.{bytesOf, bodyPart}
+use Rattle.category_line.specs.Answer.{said, Placed, Says}
+use Rattle.line.specs.Bytes.{lineBytes, inBytes}
 use Rattle.line.specs.Fits.{Reads, StandsFor, a-blank, a-category, a-range, AnswerFits, reads, refuses}
 use Rattle.line.proofs.LineBridge.{line-bridge}
-use Rattle.line.proofs.Lines.{word-place, body-place}
 
 -- ---- an answer by the paper's relations
 
@@ -121,12 +122,6 @@ module _ (text : List ℕ) (start end : ℕ) (cs : List ℕ) (spelled : drop sta
             e ∙ ap Refused d
 
 -- ---- one answer
-
-pub one-word : {text : List ℕ} {start end : ℕ} {white : Bool} (v w : Part) → NextWord text start end white v → NextWord text start end white w → v ≡ w
-one-word v w m n = word-place m ∙ sym (word-place n)
-
-pub one-body : {text : List ℕ} {start end : ℕ} (v w : Part) → Body text start end v → Body text start end w → v ≡ w
-one-body v w m n = body-place m ∙ sym (body-place n)
 
 module _ (text : List ℕ) (b : Part) where
   -- what is said, and where, is all that an answer has

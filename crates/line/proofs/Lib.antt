@@ -1,9 +1,5 @@
-pub mod Widths
-pub mod Spread
-pub mod Bridge
+-- The laws that the proofs share, and what the promise of `read_line` means.
 pub mod LineBridge
-pub mod Scan
-pub mod Runs
 pub mod Steps
 pub mod Lines
 pub mod Fits

@@ -1,62 +1,29 @@
--- A line from its words: what the parts of its first word make of a range line, what its four words make of a category line, and which
--- of the two a body is.
+-- A range line from the parts of its first word, and which of the two kinds of lines a body is.
 -- Assumes nothing.
-use Prim.Native.Nat.{ℕ, suc, _+_, _≤_, _<_}
+use Prim.Native.Nat.{ℕ, _+_, _≤_, _<_}
 use mathlib.Core.Path.{_≡_, refl, sym, ap, ap₂, _∙_, subst}
-use mathlib.Core.Logic.{_≢_}
 use mathlib.Core.Bool.{Bool, true, false, cond}
-use mathlib.Core.List.{List, [], _∷_}
-use lib.ListN.{length, take, drop, getD}
-use Rattle.paper.specs.Refusals.{rangeParts, boundUnreadable, categoryFields}
-use Rattle.paper.specs.Sizes.{maxU32, lineFields}
+use mathlib.Core.List.{List, _∷_}
+use lib.ListN.{take, drop, getD}
+use Rattle.paper.specs.Refusals.{rangeParts, boundUnreadable}
 use Rattle.paper.specs.CharDef.Line.{begins0x}
-use Rattle.paper.specs.Computed.Numeral.{numeral}
-use Rattle.paper.specs.Computed.ReadText.{Found, wrong, parts, boundOf, fromBounds, fromParts, rangeOf, fromNumbers, categoryOf}
+use Rattle.paper.specs.Computed.ReadText.{Found, parts, boundOf, fromBounds, fromParts, rangeOf, categoryOf}
 use Rattle.paper.proofs.Lists.Parts.{nothing, uncons}
 use Rattle.numeral.specs.declared.Bound.{Bound}
 use Rattle.numeral.specs.declared.Bound.the-variants.{Code, NoBound}
-use Rattle.numeral.specs.declared.Number.{Number}
-use Rattle.numeral.specs.declared.Number.the-variants.{Value, Bad}
-use Rattle.numeral.specs.Said.{saidBound, saidNumber}
-use Rattle.line.specs.declared.Part.{Part}
-use Rattle.line.specs.declared.Line.the-variants.{Blank}
-use Rattle.line.specs.declared.LineAnswer.{LineAnswer}
-use Rattle.line.specs.declared.LineAnswer.the-variants.{Read, Refused}
-use Rattle.line.specs.declared.Four.{Four}
-use Rattle.line.specs.Marks.{gapWidth, wordsBytes, bodyLineBytes, lineBytes}
-use Rattle.line.specs.Answer.{wordRun, solid, word-and, part, bytesOf, NextWord, Body, said, wordPart, bodyPart, Placed, Says}
-use Rattle.line.specs.Asked.{dotsBytes, Cut, Uncut, rangeAnswer, FourWords, categoryAnswer}
+use Rattle.numeral.specs.Said.{saidBound}
+use Rattle.scan.specs.declared.Part.{Part}
+use Rattle.scan.specs.Marks.{gapWidth, wordsBytes}
+use Rattle.scan.specs.Answer.{part, bytesOf, NextWord, Body, wordPart, bodyPart}
+use Rattle.scan.proofs.Places.{wordsIn, no-word, a-word, word-place, body-place}
+use Rattle.category_line.specs.declared.Line.the-variants.{Blank}
+use Rattle.category_line.specs.declared.LineAnswer.{LineAnswer}
+use Rattle.category_line.specs.declared.LineAnswer.the-variants.{Read, Refused}
+use Rattle.category_line.specs.Answer.{said, Placed, Says}
+use Rattle.category_line.proofs.Lines.{says-refused}
+use Rattle.line.specs.Bytes.{bodyLineBytes, lineBytes}
+use Rattle.line.specs.Asked.{dotsBytes, Cut, Uncut, rangeAnswer}
 use Rattle.line.proofs.LineBridge.{parts-some, solid-line}
-
--- the words of a part
-abbrev wordsIn : Bool → List ℕ → ℕ → ℕ → List (List ℕ)
-wordsIn white l start end = wordsBytes (gapWidth white) (drop start (take end l))
-
-pub says-refused : {l : List ℕ} {b : Part} {f : Found} {k : ℕ} → wrong k ≡ f → Says l b f (Refused k)
-says-refused e = record { says = e; placed = tt }
-
--- ---- the next word
-
-module _ {l : List ℕ} {start end : ℕ} {white : Bool} {w : Part} (n : NextWord l start end white w) where
-  pub no-word : w .end ≤ w .start → wordsIn white l start end ≡ []
-  no-word h = n .words ∙ ap (λ s. word-and s (wordsIn white l (w .end) end)) (nothing l (w .start) (w .end) h)
-
-  pub a-word : w .start < w .end → {ws : List (List ℕ)} → wordsIn white l (w .end) end ≡ ws → wordsIn white l start end ≡ bytesOf l w ∷ ws
-  a-word h e =
-      let u = uncons l (w .start) (w .end) h (n .inside h) in
-      let ws = wordsIn white l (w .end) end in
-      n .words ∙ ap (λ s. word-and s ws) u ∙ ap (λ s. s ∷ ws) (sym u) ∙ ap (λ vs. bytesOf l w ∷ vs) e
-
-  pub count-none : w .end ≤ w .start → length (wordsIn white l start end) ≡ 0
-  count-none h = ap length (no-word h)
-
-  pub count-one : w .start < w .end → length (wordsIn white l start end) ≡ suc (length (wordsIn white l (w .end) end))
-  count-one h = ap length (a-word h refl)
-
-  pub word-place : w ≡ wordPart white l start end
-  word-place =
-      let e = n .size ∙ ap (λ s. s + length (wordRun white (drop s (take end l)))) (n .place) in
-      λ i. part (n .place i) (e i)
 
 -- ---- range lines
 
@@ -114,66 +81,16 @@ module _ {l : List ℕ} {start end : ℕ} {w : Part} (n : NextWord l start end t
           says-refused
           (by-parts (k .pieces ∙ ap (λ q. drop (w .start) (take at l) ∷ q) (j .pieces ∙ ap (λ q. drop (at + dotsBytes) (take m l) ∷ q) e)))
 
--- ---- category lines
-
-not-four : (ws : List (List ℕ)) → length ws ≢ lineFields → categoryOf ws ≡ wrong categoryFields
-unfolding categoryOf
-not-four [] n = refl
-not-four (a ∷ []) n = refl
-not-four (a ∷ b ∷ []) n = refl
-not-four (a ∷ b ∷ c ∷ []) n = refl
-not-four (a ∷ b ∷ c ∷ d ∷ []) n = absurd (n refl)
-not-four (a ∷ b ∷ c ∷ d ∷ e ∷ r) n = refl
-
-pub says-not-four : {l : List ℕ} {b : Part} (ws : List (List ℕ)) → length ws ≢ lineFields → Says l b (categoryOf ws) (Refused categoryFields)
-says-not-four ws n = says-refused (sym (not-four ws n))
-
-pub same-category : (name : Part) {i i′ g g′ n n′ : Number} → i ≡ i′ → g ≡ g′ → n ≡ n′ → categoryAnswer name i′ g′ n′ ≡ categoryAnswer name i g n
-same-category name e f h = rw (e, f, h)
-
-said-category : (l : List ℕ) (p : Part) (i g n : Number) → said l (categoryAnswer p i g n) ≡ fromNumbers (bytesOf l p) (saidNumber i) (saidNumber g) (saidNumber n)
-said-category l p Bad g n = refl
-said-category l p (Value i) Bad n = refl
-said-category l p (Value i) (Value g) Bad = refl
-said-category l p (Value i) (Value g) (Value n) = refl
-
-category-placed : (l : List ℕ) (i g n : Number) (q : Part) {p : Part} → p ≡ wordPart false l (q .start) (q .end) → Placed l q (categoryAnswer p i g n)
-category-placed l Bad g n q e = tt
-category-placed l (Value i) Bad n q e = tt
-category-placed l (Value i) (Value g) Bad q e = tt
-category-placed l (Value i) (Value g) (Value n) q e = e
-
-module _ {l : List ℕ} {start end : ℕ} {f : Four} (h : FourWords l start end f) where
-  pub says-four : (i g n : Number) {r : LineAnswer}
-      → saidNumber i ≡ numeral 10 maxU32 (bytesOf l (f .invoke)) → saidNumber g ≡ numeral 10 maxU32 (bytesOf l (f .group))
-      → saidNumber n ≡ numeral 10 maxU32 (bytesOf l (f .length)) → r ≡ categoryAnswer (f .name) i g n
-      → Says l (part start end) (categoryOf (wordsIn false l start end)) r
-  unfolding categoryOf
-  says-four i g n p q t e = record {
-    says =
-        ap (said l) e
-        ∙ said-category l (f .name) i g n
-        ∙ ap₂ (λ x y. fromNumbers (bytesOf l (f .name)) x y (saidNumber n)) p q
-        ∙ ap (fromNumbers (bytesOf l (f .name)) (numeral 10 maxU32 (bytesOf l (f .invoke))) (numeral 10 maxU32 (bytesOf l (f .group)))) t
-        ∙ ap categoryOf (sym (h .words));
-    placed = subst (Placed l (part start end)) (sym e) (category-placed l i g n (part start end) (h .name));
-  }
-
 -- ---- the line
 
 module _ {l : List ℕ} {start end : ℕ} {b : Part} (n : Body l start end b) where
-  pub body-place : b ≡ bodyPart l start end
-  body-place =
-      let e = n .size ∙ ap (λ s. s + length (solid (drop s (take end l)))) (n .place) in
-      λ i. part (n .place i) (e i)
-
   pub says-blank : b .end ≤ b .start → Says l (bodyPart l start end) (lineBytes (drop start (take end l))) (Read Blank)
   unfolding lineBytes bodyLineBytes
   says-blank h = record { says = ap bodyLineBytes (sym (sym (n .bytes) ∙ nothing l (b .start) (b .end) h)); placed = tt }
 
   here : {f : Found} {r : LineAnswer} → Says l (part (b .start) (b .end)) f r → f ≡ lineBytes (drop start (take end l))
       → Says l (bodyPart l start end) (lineBytes (drop start (take end l))) r
-  here {r = r} g d = record { says = g .says ∙ d; placed = subst (λ q. Placed l q r) body-place (g .placed) }
+  here {r = r} g d = record { says = g .says ∙ d; placed = subst (λ q. Placed l q r) (body-place n) (g .placed) }
 
   module _ (h : b .start < b .end) {x : Bool} (e : x ≡ begins0x (bytesOf l b)) where
     by-body : {y : Bool} → x ≡ y

@@ -9,14 +9,16 @@ use Rattle.paper.specs.Text.Scalar.{utf8}
 use Rattle.paper.specs.CharDef.Line.{LineFits}
 use Rattle.paper.specs.CharDef.Line as paper
 use Rattle.paper.specs.CharDef.BadLine.{Misfit}
-use Rattle.line.specs.declared.CategoryLine.{CategoryLine}
-use Rattle.line.specs.declared.RangeLine.{RangeLine}
-use Rattle.line.specs.declared.Line.{Line}
-use Rattle.line.specs.declared.Line.the-variants.{Blank, Category, Range}
-use Rattle.line.specs.declared.LineAnswer.{LineAnswer}
-use Rattle.line.specs.declared.LineAnswer.the-variants.{Read, Refused}
-use Rattle.line.specs.Marks.{gapWidth, wordsBytes, lineBytes}
-use Rattle.line.specs.Answer.{bytesOf, bodyPart, Says}
+use Rattle.category_line.specs.declared.CategoryLine.{CategoryLine}
+use Rattle.category_line.specs.declared.RangeLine.{RangeLine}
+use Rattle.category_line.specs.declared.Line.{Line}
+use Rattle.category_line.specs.declared.Line.the-variants.{Blank, Category, Range}
+use Rattle.category_line.specs.declared.LineAnswer.{LineAnswer}
+use Rattle.category_line.specs.declared.LineAnswer.the-variants.{Read, Refused}
+use Rattle.scan.specs.Marks.{gapWidth, wordsBytes}
+use Rattle.scan.specs.Answer.{bytesOf, bodyPart}
+use Rattle.category_line.specs.Answer.{Says}
+use Rattle.line.specs.Bytes.{lineBytes}
 
 -- what `read_line` promises of the line from `start` to `end`
 abbrev pub Reads : List ℕ → ℕ → ℕ → LineAnswer → Type 0

@@ -2,8 +2,8 @@
 -- Assumes nothing.
 use mathlib.Core.Path.{ap, _∙_}
 use denote.Ref.{now}
-use Rattle.line.specs.declared.LineAnswer.the-variants.{Read, Refused}
-use Rattle.line.specs.declared.Line.the-variants.{Blank, Category, Range}
+use Rattle.category_line.specs.declared.LineAnswer.the-variants.{Read, Refused}
+use Rattle.category_line.specs.declared.Line.the-variants.{Blank, Category, Range}
 use Rattle.entry.proofs.Inside.{says-as, does-refuse, does-nothing, does-category, does-range, name-inside, names-inside}
 use borrow.Author.Needs.{needs}
 use Rattle.entry.proofs.enter_line.Statement.{statement}
