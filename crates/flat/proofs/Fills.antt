@@ -21,13 +21,14 @@ use Rattle.paper.proofs.Lists.Facts.{joined-length}
 use Rattle.paper.proofs.Rows.Rising.{risingFrom, ascending-rising}
 use Rattle.paper.proofs.Rows.Search.{found-one}
 use Rattle.paper.proofs.Rows.Flat.{part-inside}
-use Rattle.walk.specs.Next.{noBoundary, endsOf, boundaryAfter}
-use Rattle.walk.specs.Slots.{slotsGot, coversGot}
-use Rattle.walk.specs.Stamps.{stamped, Rowed}
+use Rattle.window.specs.Near.{noBoundary}
+use Rattle.walk.specs.Next.{endsOf, boundaryAfter}
+use Rattle.cover.specs.Slots.{slotsGot, coversGot}
+use Rattle.cover.specs.Stamps.{stamped, Rowed}
 use Rattle.row.specs.Walked.{boundariesOf, rowOf, rowsOf, Clean}
 use Rattle.walk.proofs.Walk.{onward}
-use Rattle.walk.proofs.Notes.{length-stamps, sets-append}
-use Rattle.walk.proofs.FirstSeen.{stamps-old}
+use Rattle.cover.proofs.Notes.{length-stamps, sets-append}
+use Rattle.cover.proofs.FirstSeen.{stamps-old}
 use Rattle.row.proofs.Fills.{walk-begins, walk-goes, walk-ends, walk-rises, row-is}
 use Rattle.flat.specs.Built.{FlatRoom}
 use Rattle.flat.specs.Walked.{Spread, Buildable, EntryAt, FlatFilled}

@@ -33,7 +33,7 @@ use Rattle.paper.proofs.Rows.Sizes.{places-fit}
 use Rattle.paper.proofs.Rows.Flat.{index-length, index-at}
 use Rattle.paper.proofs.Tables.Trip.{handed-holds}
 use Rattle.row.specs.Built.{ahead}
-use Rattle.walk.specs.Slots.{slotsGot}
+use Rattle.cover.specs.Slots.{slotsGot}
 use Rattle.row.specs.Fallback.{foundRow}
 use Rattle.row.specs.Walked.{boundariesOf, rowsOf, longestOf, NeedIs}
 use Rattle.row.specs.declared.Need.{Need}

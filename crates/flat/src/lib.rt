@@ -1,21 +1,21 @@
 // The flat table: for each code point of the BMP an entry that says where its categories stand in a pool, offset * 256 + length. One walk finds
 // the exact need and the longest row, a second one fills.
+use cover::Fallback;
 use paper::Counts;
 use paper::FLAT_ROW_LONG;
 use paper::MAX_CATEGORIES;
 use paper::Refusal;
 use paper::TABLE_ROOM_SHORT;
 use paper::TABLES_APART;
-use walk::Fallback;
-use walk::NEAR_BYTES;
 use walk::NO_BOUNDARY;
+use window::NEAR_BYTES;
 ghost use mathlib.Core.Path.{_≡_};
 ghost use Prim.Native.Nat.{_+_, _*_, _≤_};
 ghost use lib.ListN.{length};
 ghost use Rattle.paper.specs.Sizes.{bmpSize, maxRowPlaces};
 ghost use Rattle.paper.specs.Rows.Flat.{entryOf};
-ghost use Rattle.walk.specs.Slots.{slotsGot};
-ghost use Rattle.walk.specs.Fallback.{fallbackRow};
+ghost use Rattle.cover.specs.Slots.{slotsGot};
+ghost use Rattle.cover.specs.Fallback.{fallbackRow};
 ghost use Rattle.row.specs.Walked.{boundariesOf, rowsOf, Clean};
 ghost use Rattle.flat.specs.Built.{BuildsFlat};
 ghost use Rattle.flat.specs.Walked.{smaller, Spread, Buildable, FlatFilled, BuildsOf};
@@ -76,11 +76,11 @@ fn fill_flat(
     requires { ⌜ Buildable (now ranges) (now references) count (fallbackRow fallback) × (Clean (now seen) × (length (now index) ≤ bmpSize)) ⌝ }
     ensures { λ _. ⌜ FlatFilled (boundariesOf (slotsGot 0 count (now (ranges .entry)))) (rowsOf (fallbackRow fallback) (slotsGot 0 count (now (ranges .entry))) (now (references .entry))) (record { index = now (index .entry); pool = now (pool .entry) }) (record { index = now (index .exit); pool = now (pool .exit) }) ⌝ }
 {
-    let mut w = walk::open_window(ranges, count, 0, near);
+    let mut w = window::open_window(ranges, count, 0, near);
     let mut rows: u32 = 0;
     let mut at: usize = 0;
     while w.at < NO_BOUNDARY {
-        let end = walk::covering_near(
+        let end = window::covering_near(
             ranges,
             references,
             count,

@@ -24,10 +24,10 @@ use Rattle.paper.proofs.Tables.Laws.{pieces-length}
 use Rattle.by_name.specs.Lookup.{said, FindsCategory}
 use Rattle.by_name.specs.declared.CategoryFound.{CategoryFound}
 use Rattle.by_name.specs.declared.CategoryFound.the-variants.{Category}
-use Rattle.walk.specs.Fallback.{fallbackRow}
+use Rattle.cover.specs.Fallback.{fallbackRow}
 use Rattle.row.specs.Fallback.{foundRow}
-use Rattle.walk.specs.declared.Fallback.{Fallback}
-use Rattle.walk.specs.declared.Fallback.the-variants.{Category as Default, Nothing}
+use Rattle.cover.specs.declared.Fallback.{Fallback}
+use Rattle.cover.specs.declared.Fallback.the-variants.{Category as Default, Nothing}
 
 -- the row tells the case
 pub fallback-one : (a b : Fallback) → fallbackRow a ≡ fallbackRow b → a ≡ b

@@ -22,9 +22,10 @@ use Rattle.paper.proofs.Lists.Facts.{all-append, all-imp}
 use Rattle.paper.proofs.Pack.Trip.{bound-bits}
 use Rattle.paper.proofs.Tables.Laws.{all-take, all-drop}
 use Rattle.paper.proofs.Tables.Trip.{says}
-use Rattle.walk.specs.Next.{noBoundary, endsOf}
-use Rattle.walk.specs.Slots.{slotsGot, numbersGot, slotHolds, coversGot}
-use Rattle.walk.proofs.Entries.{slots-got, numbers-got}
+use Rattle.window.specs.Near.{noBoundary}
+use Rattle.walk.specs.Next.{endsOf}
+use Rattle.cover.specs.Slots.{slotsGot, numbersGot, slotHolds, coversGot}
+use Rattle.cover.proofs.Entries.{slots-got, numbers-got}
 use Rattle.row.specs.Walked.{boundariesOf, rowOf, rowsOf, Readable}
 
 -- ---- numbers

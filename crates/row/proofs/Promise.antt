@@ -27,7 +27,7 @@ use Rattle.paper.proofs.Apart.{zero-one, none-some}
 use Rattle.paper.proofs.Lists.Facts.{T→true, joined-length, offsets-length}
 use Rattle.paper.proofs.Rows.Boundaries.{row-for-each}
 use Rattle.row.specs.Built.{RowRoom, answerTo, given, ahead, filled, leaves, BuildsRows}
-use Rattle.walk.specs.Slots.{slotsGot}
+use Rattle.cover.specs.Slots.{slotsGot}
 use Rattle.row.specs.Fallback.{foundRow}
 use Rattle.row.specs.Walked.{boundariesOf, rowsOf, larger, longestOf, NeedIs, Filled, RoomIs, RoomFor, Made, Kept, MadeOr17}
 use Rattle.row.specs.declared.Need.{Need}

@@ -5,10 +5,9 @@ use native.Mathlib.Omega.{arith}
 use mathlib.Core.Path.{_≡_, refl, _∙_}
 use lib.ListN.{length}
 use Rattle.paper.specs.Sizes.{maxRowPlaces}
-use Rattle.walk.specs.Near.{InWindow}
-use Rattle.walk.specs.Next.{noBoundary}
-use Rattle.walk.specs.Slots.{slotsGot}
-use Rattle.walk.specs.Fallback.{fallbackRow}
+use Rattle.window.specs.Near.{noBoundary, InWindow}
+use Rattle.cover.specs.Slots.{slotsGot}
+use Rattle.cover.specs.Fallback.{fallbackRow}
 use Rattle.row.specs.Walked.{boundariesOf, rowOf}
 use Rattle.flat.proofs.Fills.{Filling, walk-start, next-rises, row-fits, walk-turn, walk-done}
 use Rattle.flat.proofs.fill_flat.Statement.{statement}
