@@ -20,8 +20,8 @@ use Rattle.paper.proofs.Lists.Facts.{T→true}
 use Rattle.packer.specs.declared.Written.{Written}
 use Rattle.packer.specs.declared.Written.the-variants.{Length, Refused}
 use Rattle.packer.specs.Write.{packOf, given, leaves, WritesPack}
-use Rattle.packer.specs.Writer.{packLength}
-use Rattle.packer.proofs.Handed.{length-is}
+use Rattle.packer.specs.Length.{packLength}
+use Rattle.packer.proofs.Length.{length-is}
 
 -- what is promised, where the reading and the paper's answer are known
 promised : (t : Tables) (n : Counts) (lent after : List ℕ) (r : Written) (o : Option Reading) (b : Built) → handedIn t n ≡ o

@@ -16,9 +16,9 @@ use Rattle.paper.specs.Pack.Fields.{byteWidth, field, bits, bitsOf, inBytes, pa
 use Rattle.paper.specs.Computed.ReadPack.{isPadding}
 use Rattle.paper.proofs.Pack.Bits.{spell-append, inBytes-unpack, inBytes-pad, unpack-length}
 use Rattle.paper.proofs.Pack.Size.{bits-length}
-use Rattle.packer.specs.declared.BitWriter.{BitWriter}
-use Rattle.packer.specs.Writer.{waitingBits, start, Writes, Puts}
-use Rattle.packer.proofs.Writing.{puts-both}
+use Rattle.put_field.specs.declared.BitWriter.{BitWriter}
+use Rattle.put_field.specs.Writer.{waitingBits, start, Writes, Puts}
+use Rattle.put_field.proofs.Writing.{puts-both}
 
 zero-bits : (w : ℕ) → T (all (eqb 0) (bits w 0))
 zero-bits zero = tt

@@ -1,3 +1,3 @@
--- What the writer promises: `Write` is the public promise, `Writer` what the functions below it promise.
+-- What the writer promises: `Write` is the public promise, `Length` the length that it tests the room with.
 pub mod Write
-pub mod Writer
+pub mod Length

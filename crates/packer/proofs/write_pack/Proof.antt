@@ -3,7 +3,8 @@ use native.Mathlib.Omega.{arith}
 use mathlib.Core.Path.{_∙_, sym}
 use borrow.Author.Tests.{not-true}
 use Rattle.table_rules.proofs.Tests.{passed}
-use Rattle.packer.proofs.Handed.{asked, limited}
+use Rattle.put_parts.proofs.Handed.{asked}
+use Rattle.packer.proofs.Length.{limited}
 use Rattle.packer.proofs.Answer.{apart, short, written}
 use borrow.Author.Needs.{needs}
 use Rattle.packer.proofs.write_pack.Statement.{statement}

@@ -1,0 +1,2 @@
+-- What a writer of fields promises.
+pub mod Writer

@@ -1,0 +1,2 @@
+-- What is put of the tables besides the ranges.
+pub mod Parts

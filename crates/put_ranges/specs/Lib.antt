@@ -1,0 +1,2 @@
+-- What is put of the ranges.
+pub mod Ranges
