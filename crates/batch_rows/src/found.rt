@@ -4,7 +4,7 @@ use crate::writer::add_u16;
 use crate::writer::add_u16s;
 use crate::writer::add_u32;
 use lookup::Located;
-use lookup::PackedFound;
+use packed::PackedFound;
 
 const CODE_BYTES: usize = 4;
 
@@ -61,7 +61,7 @@ fn add_found<'a>(
 }
 
 fn add_packed(out: &mut [u8], at: usize, index: &[u32], c: u32) -> usize {
-    match lookup::lookup_categories_packed(index, c) {
+    match packed::lookup_categories_packed(index, c) {
         PackedFound::At(p) => {
             let to = add_u8(out, at, PRESENT);
             let behind = add_u32(out, to, p.offset);

@@ -135,10 +135,10 @@ pub extern "C" fn bench_lookups<'a>(
 
 // What one packed lookup gives for the sum: where the part stands, and how long it is.
 fn packed_weight(flat_index: &[u32], c: u32) -> u64 {
-    match lookup::lookup_categories_packed(flat_index, c) {
-        lookup::PackedFound::At(p) => std::num::wrapping_add_u64(p.offset as u64, p.len as u64),
-        lookup::PackedFound::Absent => 0,
-        lookup::PackedFound::Refused(_) => 0,
+    match packed::lookup_categories_packed(flat_index, c) {
+        packed::PackedFound::At(p) => std::num::wrapping_add_u64(p.offset as u64, p.len as u64),
+        packed::PackedFound::Absent => 0,
+        packed::PackedFound::Refused(_) => 0,
     }
 }
 

@@ -12,6 +12,7 @@ use Rattle.paper.specs.Computed.HandedIn.{handedIn}
 use Rattle.paper.specs.declared.Counts.{Counts}
 use Rattle.row.proofs.Promise.{rows-left}
 use Rattle.flat.proofs.Promise.{flat-left}
+use Rattle.numbered.proofs.Promise as numbered
 use Rattle.lookup.proofs.Promise as lookup
 use Rattle.demand.specs.Demand2.{FlatToo, no-flat, with-flat, BuiltOver, indexOf, flatOf, lookupTables, LooksUp, FindsByNumber}
 
@@ -39,8 +40,8 @@ looks-up t n q e b = as-built q (lookupTables b) (go (b .flat))
 pub finds-by-number : (t : Tables) (n : Counts) (q : Reading) → handedIn t n ≡ some q → FindsByNumber q t n
 finds-by-number t n q e =
     record {
-      name-held = lookup.held-name t n q e;
-      name-unknown = lookup.name-none t n q e;
-      name-known = lookup.name-some t n q e;
-      defined = lookup.defined t n q e;
+      name-held = numbered.held-name t n q e;
+      name-unknown = numbered.name-none t n q e;
+      name-known = numbered.name-some t n q e;
+      defined = numbered.defined t n q e;
     }

@@ -23,13 +23,14 @@ use Rattle.flat.specs.Built.{FlatRoom, BuildsFlat}
 use Rattle.flat.specs.declared.Built.the-variants.{Flat}
 use Rattle.row.specs.declared.RowCounts.{RowCounts}
 use Rattle.row.specs.declared.Built.the-variants.{Rows}
-use Rattle.lookup.specs.Categories.{Locates, PartIs, packed}
-use Rattle.lookup.specs.Numbers.{definition, name, nameHeld}
-use Rattle.lookup.specs.declared.NameFound.the-variants as name-found
+use Rattle.packed.specs.Entries.{packed}
+use Rattle.packed.specs.declared.Packed.{Packed}
+use Rattle.packed.specs.declared.PackedFound.the-variants as packed-found
+use Rattle.numbered.specs.Numbers.{definition, name, nameHeld}
+use Rattle.numbered.specs.declared.NameFound.the-variants as name-found
+use Rattle.lookup.specs.Categories.{Locates, PartIs}
 use Rattle.lookup.specs.declared.Located.{Located}
 use Rattle.lookup.specs.declared.Located.the-variants.{Refused}
-use Rattle.lookup.specs.declared.Packed.{Packed}
-use Rattle.lookup.specs.declared.PackedFound.the-variants as packed-found
 
 -- the builders ran over a reading's tables and their counts, and built: rows, and perhaps a flat table
 pub data FlatToo (t : Tables) (n : Counts) : Type 0 where

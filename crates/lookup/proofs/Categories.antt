@@ -22,12 +22,12 @@ use Rattle.paper.proofs.Apart.{zero-one, refuses-gives}
 use Rattle.paper.proofs.Rows.Lookup.{looks-some}
 use Rattle.row.specs.Sought.{RowSought}
 use Rattle.row.proofs.Search.{sought-found}
-use Rattle.lookup.specs.declared.Span.{Span}
+use Rattle.packed.specs.declared.Span.{Span}
+use Rattle.packed.proofs.Tests.{no-entries, some-entries}
 use Rattle.lookup.specs.declared.Located.{Located}
 use Rattle.lookup.specs.declared.Located.the-variants.{InFlat, InRows, Refused}
 use Rattle.lookup.specs.Categories.{inPool, located, Locates, held, PartIs}
 use Rattle.lookup.specs.Ways.{byFlat, ofRow, byRow, ByRows}
-use Rattle.lookup.proofs.Tests.{no-entries, some-entries}
 
 -- ---- a part, or 26
 

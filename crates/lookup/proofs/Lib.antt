@@ -1,4 +1,3 @@
-pub mod Tests
+-- The laws that the proofs share, and what the promises leave open.
 pub mod Categories
-pub mod Numbers
 pub mod Promise

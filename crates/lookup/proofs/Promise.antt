@@ -1,45 +1,38 @@
 -- What the promises of the lookups leave open, nothing but the row among boundaries out of order, and what they say over tables as built: at every
 -- scalar value the covering rule, and never 26. Idea: the paper's theorems on its own answers, carried over to the enums and to the part.
 -- Assumes nothing.
-use Prim.Native.Nat.{ℕ, zero, suc, _+_, _≤_, _<_}
-use native.Mathlib.Nat.{le-of-suc-le-suc, not-suc-le-zero}
+use Prim.Native.Nat.{ℕ, _+_, _≤_, _<_}
 use native.Mathlib.Omega.{arith}
 use mathlib.Core.Path.{_≡_, refl, sym, ap, _∙_, subst}
 use mathlib.Core.Logic.{_↔_}
 use mathlib.Core.Bool.{not}
-use mathlib.Core.List.{List, [], _∷_}
-use mathlib.Core.Option.{Option, none, some}
+use mathlib.Core.List.{List, []}
+use mathlib.Core.Option.{some}
 use lib.Dec.{T}
 use lib.ListN.{length, getD, take, drop}
 use lib.Seq.{getD-take, getD-drop}
-use Rattle.paper.specs.Sizes.{bmpSize}
-use Rattle.paper.specs.Refusals.{notScalar, numberUnknown, tablesApart}
+use Rattle.paper.specs.Refusals.{notScalar, tablesApart}
 use Rattle.paper.specs.Text.Scalar.{isScalar, IsScalar}
 use Rattle.paper.specs.CharDef.Reading.{Reading}
 use Rattle.paper.specs.Rows.Covering.{rising, categoriesAt}
-use Rattle.paper.specs.Rows.Flat.{entryOffset, entryLength, flatEntry}
+use Rattle.paper.specs.Rows.Flat.{entryOffset, entryLength}
 use Rattle.paper.specs.Rows.Lookup.{Looked, gives, refuses, LookupTables, Pool, ofFlat, ofRows, Part, content, usesFlat, apart, lookup, Looks, packedAt}
-use Rattle.paper.specs.Rows.Lookup.{GivesPart, FlatLeft, AsBuilt, without-flat, with-flat}
-use Rattle.paper.specs.Rows.Numbers.{numberOf, definitionAt, nameAt, lookupDefinition, categoryName, nameOf}
-use Rattle.paper.specs.Tables.Layout.{NameSlot, Tables}
-use Rattle.paper.specs.Computed.HandedIn.{handedIn}
-use Rattle.paper.specs.declared.Counts.{Counts}
+use Rattle.paper.specs.Rows.Lookup.{GivesPart, AsBuilt, without-flat, with-flat}
 use Rattle.paper.specs.declared.Refusal.{Refusal}
-use Rattle.paper.proofs.Apart.{zero-one, refuses-gives}
+use Rattle.paper.proofs.Apart.{zero-one}
 use Rattle.paper.proofs.Rows.Boundaries.{boundaries-are}
-use Rattle.paper.proofs.Rows.Lookup.{no-scalar, looks-one, looks-some, flat-one, apart-exactly, packed-no-scalar, packed-same}
-use Rattle.paper.proofs.Rows.AsBuilt.{looked-up, packed-there}
-use Rattle.paper.proofs.Rows.Numbers.{number-name, number-definition}
-use Rattle.lookup.specs.declared.Span.{Span}
+use Rattle.paper.proofs.Rows.Lookup.{no-scalar, looks-one, looks-some, flat-one, apart-exactly, packed-same}
+use Rattle.paper.proofs.Rows.AsBuilt.{looked-up}
+use Rattle.packed.specs.declared.Span.{Span}
+use Rattle.packed.specs.declared.Packed.{Packed}
+use Rattle.packed.specs.declared.PackedFound.the-variants as packed-found
+use Rattle.packed.specs.declared.CategoryAt.the-variants as category-found
+use Rattle.packed.specs.Entries.{packed, categoryIn, category}
+use Rattle.packed.proofs.Tests.{category-in}
+use Rattle.packed.proofs.Promise.{entry-of}
 use Rattle.lookup.specs.declared.Located.{Located}
 use Rattle.lookup.specs.declared.Located.the-variants.{InFlat, Refused}
-use Rattle.lookup.specs.declared.Packed.{Packed}
-use Rattle.lookup.specs.declared.PackedFound.the-variants as packed-found
-use Rattle.lookup.specs.declared.CategoryAt.the-variants as category-found
-use Rattle.lookup.specs.declared.NameFound.the-variants as name-found
-use Rattle.lookup.specs.Categories.{inPool, located, placed, Locates, held, PartIs, packed, categoryIn, category}
-use Rattle.lookup.specs.Numbers.{definition, name, nameHeld}
-use Rattle.lookup.proofs.Tests.{category-in}
+use Rattle.lookup.specs.Categories.{inPool, located, placed, Locates, held, PartIs}
 use Rattle.lookup.proofs.Categories.{flat-inside}
 
 module _ (t : LookupTables) (c : ℕ) where
@@ -109,9 +102,6 @@ module _ (t : LookupTables) (c : ℕ) where
     pub no-part : (x : List ℕ) → PartIs t c x → x ≡ []
     no-part x l = l .holds ∙ ap (held t) (no-scalar t c (l .looked) n (l .looks))
 
-    pub no-packed : packed (packedAt (t .index) c) ≡ packed-found.Refused (record { number = notScalar; place = 0 })
-    no-packed = ap packed (packed-no-scalar (t .index) c n)
-
   refuses-only : (a : Looked Part) (n : ℕ) → located a ≡ Refused (record { number = n; place = 0 }) → a ≡ refuses n
   refuses-only (gives p) n e = go (p .from) e
     where
@@ -131,12 +121,6 @@ module _ (t : LookupTables) (c : ℕ) where
       from h = l .answer ∙ ap located (l .looks .answer ∙ apart-exactly t c (l .looks .row) .1 h)
 
   -- ---- the packed entry addresses the part that the lookup answers
-
-  entry-of : (a : Looked (Option ℕ)) (p : Packed) → packed a ≡ packed-found.At p
-      → (e : ℕ) × ((a ≡ gives (some e)) × (p ≡ record { offset = entryOffset e; len = entryLength e }))
-  entry-of (gives (some e)) p h = (e, (refl, cc))
-  entry-of (gives none) p h = zero-one (cc)
-  entry-of (refuses n) p h = zero-one (cc)
 
   pub packed-place : (p : Packed) (x : Located) → packed (packedAt (t .index) c) ≡ packed-found.At p → Locates t c x → ((e : Refusal) → x ≡ Refused e → ⊥)
       → x ≡ InFlat (record { start = p .offset; len = p .len })
@@ -205,65 +189,3 @@ module _ (r : Reading) (t : LookupTables) (b : AsBuilt r t) (c : ℕ) where
           let d : getD (t .flat) (p .offset + k) 0 ≡ getD (categoriesAt r c) k 0 =
           sym (getD-take (p .len) (drop (p .offset) (t .flat)) k 0 i ∙ getD-drop (p .offset) (t .flat) k 0) ∙ ap (λ m. getD m k 0) packed-part in
           sym (category-in (t .flat) (p .offset + k) (omega arith)) ∙ ap category-found.Category d
-
--- with a flat table there is an entry at every scalar value of the BMP
-module _ (r : Reading) (t : LookupTables) (left : FlatLeft r t) (c : ℕ) (s : IsScalar c) (low : c < bmpSize) where
-  pub built-packed : packed (packedAt (t .index) c) ≡ packed-found.At (record { offset = entryOffset (flatEntry r c); len = entryLength (flatEntry r c) })
-  built-packed = ap packed (packed-there r t left c s low)
-
--- ---- over tables in which a reading stands: names and definitions by number
-
-heldOf : Looked (List ℕ) → List ℕ
-heldOf (gives l) = l
-heldOf (refuses n) = []
-
-as-held : (store : List ℕ) (a : Looked NameSlot) → nameHeld store a ≡ heldOf (nameOf store a)
-unfolding heldOf
-as-held store (gives p) = refl
-as-held store (refuses n) = refl
-
-number-there : (names : List (List ℕ)) (k : ℕ) → heldOf (numberOf names k) ≡ getD names k []
-unfolding heldOf numberOf
-number-there [] k = refl
-number-there (x ∷ names) zero = refl
-number-there (x ∷ names) (suc k) = number-there names k
-
-unknown : {A : Type 0} (l : List A) (k : ℕ) → length l ≤ k → numberOf l k ≡ refuses numberUnknown
-unfolding numberOf
-unknown [] k h = refl
-unknown (x ∷ l) zero h = absurd (not-suc-le-zero h)
-unknown (x ∷ l) (suc k) h = unknown l k (le-of-suc-le-suc h)
-
-known : {A : Type 0} (l : List A) (k n : ℕ) → k < length l → numberOf l k ≡ refuses n → ⊥
-unfolding numberOf
-known [] k n h e = not-suc-le-zero h
-known (x ∷ l) zero n h e = refuses-gives (sym e)
-known (x ∷ l) (suc k) n h e = known l k n (le-of-suc-le-suc h) e
-
-refused-name : (store : List ℕ) (a : Looked NameSlot) (e : Refusal) → name a ≡ name-found.Refused e → nameOf store a ≡ refuses (e .number)
-refused-name store (gives p) e h = zero-one (cc)
-refused-name store (refuses n) e h = let q : e ≡ record { number = n; place = 0 } = cc in ap (λ x. refuses (x .number)) (sym q)
-
-name-refused : (store : List ℕ) (a : Looked NameSlot) (n : ℕ) → nameOf store a ≡ refuses n → name a ≡ name-found.Refused (record { number = n; place = 0 })
-name-refused store (gives p) n h = refuses-gives (sym h)
-name-refused store (refuses k) n h = let q : k ≡ n = cc in ap (λ x. name-found.Refused (record { number = x; place = 0 })) q
-
-module _ (t : Tables) (n : Counts) (r : Reading) (h : handedIn t n ≡ some r) (k : ℕ) where
-  named : nameOf (t .names) (categoryName (t .names) (t .categories) (n .categories) k) ≡ nameAt r k
-  named = number-name t n r h k
-
-  -- the part that is returned is the name with that number, empty where there is none
-  pub held-name : nameHeld (t .names) (categoryName (t .names) (t .categories) (n .categories) k) ≡ getD (r .names) k []
-  held-name = as-held (t .names) (categoryName (t .names) (t .categories) (n .categories) k) ∙ ap heldOf named ∙ number-there (r .names) k
-
-  -- 15 exactly where there is none, and never 26
-  pub name-none : length (r .names) ≤ k
-      → name (categoryName (t .names) (t .categories) (n .categories) k) ≡ name-found.Refused (record { number = numberUnknown; place = 0 })
-  name-none i = name-refused (t .names) (categoryName (t .names) (t .categories) (n .categories) k) numberUnknown (named ∙ unknown (r .names) k i)
-
-  pub name-some : k < length (r .names) → (e : Refusal) → name (categoryName (t .names) (t .categories) (n .categories) k) ≡ name-found.Refused e → ⊥
-  name-some i e d = known (r .names) k (e .number) i (sym named ∙ refused-name (t .names) (categoryName (t .names) (t .categories) (n .categories) k) e d)
-
-  -- the definition with that number, 15 exactly where there is none
-  pub defined : definition (lookupDefinition (t .definitions) (n .definitions) k) ≡ definition (definitionAt r k)
-  defined = ap definition (number-definition t n r h k)

@@ -1,23 +1,14 @@
--- Lookups of categories over any lent tables: the paper's answer for each case of the enums, and what the part that is returned holds, "empty
+-- The lookup of categories over any lent tables: the paper's answer for each case of the enum, and what the part that is returned holds, "empty
 -- where the lookup refuses".
 -- Assumes nothing.
 use Prim.Native.Nat.{ℕ}
 use mathlib.Core.Path.{_≡_}
-use mathlib.Core.Bool.{cond}
 use mathlib.Core.List.{List, []}
-use mathlib.Core.Option.{Option, none, some}
-use lib.Dec.{ltb}
-use lib.ListN.{length, getD, take, drop}
-use Rattle.paper.specs.Refusals.{tablesApart}
-use Rattle.paper.specs.Rows.Flat.{entryOffset, entryLength}
+use lib.ListN.{take, drop}
 use Rattle.paper.specs.Rows.Lookup.{Looked, gives, refuses, LookupTables, Pool, ofFlat, ofRows, Part, content, Looks}
-use Rattle.lookup.specs.declared.Span.{Span}
+use Rattle.packed.specs.declared.Span.{Span}
 use Rattle.lookup.specs.declared.Located.{Located}
 use Rattle.lookup.specs.declared.Located.the-variants.{InFlat, InRows, Refused}
-use Rattle.lookup.specs.declared.PackedFound.{PackedFound}
-use Rattle.lookup.specs.declared.PackedFound.the-variants as packed-found
-use Rattle.lookup.specs.declared.CategoryAt.{CategoryAt}
-use Rattle.lookup.specs.declared.CategoryAt.the-variants as category-at
 
 -- ---- where the categories of a code point stand
 
@@ -50,19 +41,3 @@ pub record PartIs (t : LookupTables) (c : ℕ) (part : List ℕ) : Type 0 where
   pub looked : Looked Part
   pub looks : Looks t c looked
   pub holds : part ≡ held t looked
-
--- ---- packed, and one category of the flat pool
-
--- a flat entry's offset and length
-abbrev pub packed : Looked (Option ℕ) → PackedFound
-packed (gives (some e)) = packed-found.At (record { offset = entryOffset e; len = entryLength e })
-packed (gives none) = packed-found.Absent
-packed (refuses n) = packed-found.Refused (record { number = n; place = 0 })
-
--- "26 exactly when what they would answer runs past its table"
-unfoldable pub categoryIn : List ℕ → ℕ → Looked ℕ
-categoryIn pool i = cond (ltb i (length pool)) (gives (getD pool i 0)) (refuses tablesApart)
-
-abbrev pub category : Looked ℕ → CategoryAt
-category (gives k) = category-at.Category k
-category (refuses n) = category-at.Refused (record { number = n; place = 0 })

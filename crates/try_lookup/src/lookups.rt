@@ -3,10 +3,10 @@
 use crate::sums;
 use crate::tally;
 use crate::words;
-use lookup::CategoryAt;
 use lookup::Located;
-use lookup::PackedFound;
-use lookup::Span;
+use packed::CategoryAt;
+use packed::PackedFound;
+use packed::Span;
 use paper::NOT_SCALAR;
 use paper::Refusal;
 use replay::after_field;
@@ -158,21 +158,21 @@ fn looked_agrees<'a>(
     ) {
         return false;
     }
-    let found = lookup::lookup_categories_packed(index, code_at(list, at));
+    let found = packed::lookup_categories_packed(index, code_at(list, at));
     packed_agrees(list, after_field(list, ways), first, found)
 }
 
 // `p CODE WAY OFFSET LENGTH`, from the code point on.
 fn packed_item(list: &[u8], at: usize, index: &[u32]) -> bool {
     let way = after_field(list, at);
-    let found = lookup::lookup_categories_packed(index, code_at(list, at));
+    let found = packed::lookup_categories_packed(index, code_at(list, at));
     packed_agrees(list, after_field(list, way), byte_at(list, way), found)
 }
 
 // `c PLACE CATEGORY`, from the place on.
 fn place_item(list: &[u8], at: usize, flat: &[u16]) -> bool {
     let said = after_field(list, at);
-    match lookup::flat_category(flat, number_at(list, at) as usize) {
+    match packed::flat_category(flat, number_at(list, at) as usize) {
         CategoryAt::Category(n) => words::is_number(list, said, n as u64),
         CategoryAt::Refused(r) => words::refuses(list, said, r),
     }

@@ -2,9 +2,9 @@
 use crate::tally;
 use crate::words;
 use by_name::CategoryFound;
-use lookup::CategoryData;
-use lookup::DefinitionFound;
-use lookup::NameFound;
+use numbered::CategoryData;
+use numbered::DefinitionFound;
+use numbered::NameFound;
 use paper::Counts;
 use replay::after_field;
 use replay::byte_at;
@@ -73,12 +73,12 @@ fn number_agrees(
     if !name_agrees(
         list,
         name,
-        lookup::locate_name(names, categories, counts.categories, id),
-        lookup::category_name(names, categories, counts.categories, id),
+        numbered::locate_name(names, categories, counts.categories, id),
+        numbered::category_name(names, categories, counts.categories, id),
     ) {
         return false;
     }
-    let found = lookup::lookup_definition(definitions, counts.definitions, id);
+    let found = numbered::lookup_definition(definitions, counts.definitions, id);
     definition_agrees(list, after_field(list, name), found)
 }
 
@@ -95,7 +95,7 @@ fn wanted_agrees(list: &[u8], at: usize, names: &[u8], categories: &[u8], count:
     let mut room = [0u8; LONGEST_NAME];
     let field = replay::field_at(list, at);
     let n = replay::bytes_of(list, field.start, field.end, &mut room);
-    let found = lookup::category_id_by_name(names, categories, count, &room[..n]);
+    let found = numbered::category_id_by_name(names, categories, count, &room[..n]);
     found_agrees(list, field.next, found)
 }
 

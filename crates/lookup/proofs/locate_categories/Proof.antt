@@ -1,6 +1,6 @@
 -- `lookup::locate_categories` meets its contract: by the ways of a lookup. Assumes nothing.
 use native.Mathlib.Omega.{arith}
-use Rattle.lookup.proofs.Tests.{none, some}
+use Rattle.packed.proofs.Tests.{none, some}
 use Rattle.lookup.proofs.Categories.{way-none, way-odd, way-empty, way-beyond, way-flat}
 use borrow.Author.Needs.{needs}
 use Rattle.lookup.proofs.locate_categories.Statement.{statement}

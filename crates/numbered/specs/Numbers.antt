@@ -7,10 +7,10 @@ use Rattle.paper.specs.CharDef.Reading.{Definition}
 use Rattle.paper.specs.Rows.Lookup.{Looked, gives, refuses}
 use Rattle.paper.specs.Rows.Numbers.{nameIn}
 use Rattle.paper.specs.Tables.Layout.{NameSlot}
-use Rattle.lookup.specs.declared.DefinitionFound.{DefinitionFound}
-use Rattle.lookup.specs.declared.DefinitionFound.the-variants as definition-found
-use Rattle.lookup.specs.declared.NameFound.{NameFound}
-use Rattle.lookup.specs.declared.NameFound.the-variants as name-found
+use Rattle.numbered.specs.declared.DefinitionFound.{DefinitionFound}
+use Rattle.numbered.specs.declared.DefinitionFound.the-variants as definition-found
+use Rattle.numbered.specs.declared.NameFound.{NameFound}
+use Rattle.numbered.specs.declared.NameFound.the-variants as name-found
 
 abbrev pub definition : Looked Definition → DefinitionFound
 definition (gives d) = definition-found.Definition (record { invoke = d .invoke; group = d .group; length = d .len })

@@ -1,10 +1,10 @@
--- `lookup::lookup_categories_packed` meets its contract: below the surrogates, no scalar value, beyond the BMP, in it. Assumes nothing.
+-- `packed::lookup_categories_packed` meets its contract: below the surrogates, no scalar value, beyond the BMP, in it. Assumes nothing.
 use native.Mathlib.Omega.{arith}
 use mathlib.Core.Path.{sym}
-use Rattle.lookup.proofs.Tests.{is-low, none, some, packed-none, packed-beyond}
+use Rattle.packed.proofs.Tests.{is-low, none, some, packed-none, packed-beyond}
 use borrow.Author.Needs.{needs}
-use Rattle.lookup.proofs.lookup_categories_packed.Statement.{statement}
-use Rattle.lookup.proofs.lookup_categories_packed.Tie as tie
+use Rattle.packed.proofs.lookup_categories_packed.Statement.{statement}
+use Rattle.packed.proofs.lookup_categories_packed.Tie as tie
 
 packed-in-requires : tie.Need-packed-in-requires
 packed-in-requires c κs = (sym (is-low _ (omega arith)), omega arith)

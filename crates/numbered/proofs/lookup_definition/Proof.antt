@@ -1,10 +1,10 @@
--- `lookup::lookup_definition` meets its contract: 15, then 26, then the entry that was read. Assumes nothing.
+-- `numbered::lookup_definition` meets its contract: 15, then 26, then the entry that was read. Assumes nothing.
 use native.Mathlib.Omega.{arith}
 use mathlib.Core.Path.{refl}
-use Rattle.lookup.proofs.Numbers.{definition-unknown, definition-past, definition-there}
+use Rattle.numbered.proofs.Numbers.{definition-unknown, definition-past, definition-there}
 use borrow.Author.Needs.{needs}
-use Rattle.lookup.proofs.lookup_definition.Statement.{statement}
-use Rattle.lookup.proofs.lookup_definition.Tie as tie
+use Rattle.numbered.proofs.lookup_definition.Statement.{statement}
+use Rattle.numbered.proofs.lookup_definition.Tie as tie
 
 returns : tie.Need-returns
 returns c = definition-unknown _ _ _ (omega arith)

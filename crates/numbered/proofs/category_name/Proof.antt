@@ -1,10 +1,10 @@
--- `lookup::category_name` meets its contract: the part at the place that was located, which lies in the store. Assumes nothing.
+-- `numbered::category_name` meets its contract: the part at the place that was located, which lies in the store. Assumes nothing.
 use native.Mathlib.Omega.{arith}
 use mathlib.Core.Path.{sym, _∙_}
-use Rattle.lookup.proofs.Numbers.{name-inside, name-part, name-none}
+use Rattle.numbered.proofs.Numbers.{name-inside, name-part, name-none}
 use borrow.Author.Needs.{needs}
-use Rattle.lookup.proofs.category_name.Statement.{statement}
-use Rattle.lookup.proofs.category_name.Tie as tie
+use Rattle.numbered.proofs.category_name.Statement.{statement}
+use Rattle.numbered.proofs.category_name.Tie as tie
 
 locate-name-requires : tie.Need-locate-name-requires
 locate-name-requires c κs = search needs

@@ -1,4 +1,4 @@
--- The tests of the lookups by code point: which way they go, and what the paper answers there.
+-- The tests of the packed lookup and of `is_scalar`: which way they go, and what the paper answers there.
 -- Assumes nothing.
 use Prim.Native.Nat.{ℕ, _≤_, _<_}
 use native.Mathlib.Omega.{arith}
@@ -15,9 +15,9 @@ use Rattle.paper.specs.Rows.Flat.{entryOffset, entryLength}
 use Rattle.paper.specs.Rows.Lookup.{packedAt}
 use Rattle.paper.proofs.Lists.Facts.{T→true, T→false}
 use Rattle.paper.proofs.Text.Scalar.{scalar-low, scalar-high, surrogate, beyond}
-use Rattle.lookup.specs.declared.PackedFound.the-variants as packed-found
-use Rattle.lookup.specs.declared.CategoryAt.the-variants as category-found
-use Rattle.lookup.specs.Categories.{packed, categoryIn, category}
+use Rattle.packed.specs.declared.PackedFound.the-variants as packed-found
+use Rattle.packed.specs.declared.CategoryAt.the-variants as category-found
+use Rattle.packed.specs.Entries.{packed, categoryIn, category}
 
 -- ---- scalar values
 

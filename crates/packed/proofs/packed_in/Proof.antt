@@ -1,9 +1,9 @@
--- `lookup::packed_in` meets its contract: by its tests, and an entry is an offset and a length. Assumes nothing.
+-- `packed::packed_in` meets its contract: by its tests, and an entry is an offset and a length. Assumes nothing.
 use native.Mathlib.Omega.{arith}
-use Rattle.lookup.proofs.Tests.{packed-empty, packed-past, packed-at}
+use Rattle.packed.proofs.Tests.{packed-empty, packed-past, packed-at}
 use borrow.Author.Needs.{needs}
-use Rattle.lookup.proofs.packed_in.Statement.{statement}
-use Rattle.lookup.proofs.packed_in.Tie as tie
+use Rattle.packed.proofs.packed_in.Statement.{statement}
+use Rattle.packed.proofs.packed_in.Tie as tie
 
 returns : tie.Need-returns
 returns c = packed-empty _ _ (c .before .pre .0) (c .before .pre .1) (omega arith)

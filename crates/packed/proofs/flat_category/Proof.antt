@@ -1,9 +1,9 @@
--- `lookup::flat_category` meets its contract: by its one test. Assumes nothing.
+-- `packed::flat_category` meets its contract: by its one test. Assumes nothing.
 use native.Mathlib.Omega.{arith}
-use Rattle.lookup.proofs.Tests.{category-in, category-past}
+use Rattle.packed.proofs.Tests.{category-in, category-past}
 use borrow.Author.Needs.{needs}
-use Rattle.lookup.proofs.flat_category.Statement.{statement}
-use Rattle.lookup.proofs.flat_category.Tie as tie
+use Rattle.packed.proofs.flat_category.Statement.{statement}
+use Rattle.packed.proofs.flat_category.Tie as tie
 
 mul-t5 : tie.Need-mul-t5
 mul-t5 c = search needs

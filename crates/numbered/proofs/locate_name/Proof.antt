@@ -1,9 +1,9 @@
--- `lookup::locate_name` meets its contract: 15, then the two ways to 26, then the slot that was read. Assumes nothing.
+-- `numbered::locate_name` meets its contract: 15, then the two ways to 26, then the slot that was read. Assumes nothing.
 use native.Mathlib.Omega.{arith}
-use Rattle.lookup.proofs.Numbers.{name-unknown, slot-past, name-past, name-there}
+use Rattle.numbered.proofs.Numbers.{name-unknown, slot-past, name-past, name-there}
 use borrow.Author.Needs.{needs}
-use Rattle.lookup.proofs.locate_name.Statement.{statement}
-use Rattle.lookup.proofs.locate_name.Tie as tie
+use Rattle.numbered.proofs.locate_name.Statement.{statement}
+use Rattle.numbered.proofs.locate_name.Tie as tie
 
 returns : tie.Need-returns
 returns c = name-unknown _ _ _ _ (omega arith)

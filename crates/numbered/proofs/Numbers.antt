@@ -17,11 +17,11 @@ use Rattle.paper.specs.Tables.Layout.{NameSlot, nameSlotOf, nameSlotSize, defin
 use Rattle.paper.specs.Tables.Lent.{got, num}
 use Rattle.paper.proofs.Apart.{zero-one}
 use Rattle.paper.proofs.Tables.Laws.{got-in, num-part}
-use Rattle.lookup.specs.declared.DefinitionFound.the-variants as definition-found
+use Rattle.numbered.specs.declared.DefinitionFound.the-variants as definition-found
 use Rattle.paper.specs.declared.Refusal.{Refusal}
-use Rattle.lookup.specs.declared.Span.{Span}
-use Rattle.lookup.specs.declared.NameFound.the-variants as name-found
-use Rattle.lookup.specs.Numbers.{definition, name, nameHeld}
+use Rattle.packed.specs.declared.Span.{Span}
+use Rattle.numbered.specs.declared.NameFound.the-variants as name-found
+use Rattle.numbered.specs.Numbers.{definition, name, nameHeld}
 
 -- ---- fields of an entry, as the code reads them
 
