@@ -1,6 +1,6 @@
 -- Over tables that hold together the counts are within the limits, and the length that they give is that of the reading's pack.
 -- Assumes nothing.
-use Prim.Native.Nat.{ℕ, _+_, _/_}
+use Prim.Native.Nat.{_+_, _/_}
 use mathlib.Core.Path.{_≡_, ap, _∙_}
 use lib.Dec.{T}
 use lib.ListN.{length}
