@@ -1,5 +1,6 @@
 pub mod Counting
 pub mod Defined
 pub mod Padding
+pub mod Kept
 pub mod Body
 pub mod Promise
