@@ -1,6 +1,3 @@
-pub mod Counting
-pub mod Defined
-pub mod Padding
 pub mod Kept
-pub mod Body
+pub mod Answer
 pub mod Promise

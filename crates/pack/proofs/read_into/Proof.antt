@@ -1,8 +1,6 @@
 -- `pack::read_into` meets its contract. Assumes nothing.
-use native.Mathlib.Omega.{arith}
 use mathlib.Core.Path.{_∙_}
 use Rattle.room.proofs.Sizes.{cleared-sized}
-use borrow.Author.Needs.{needs}
 use Rattle.pack.proofs.read_into.Statement.{statement}
 use Rattle.pack.proofs.read_into.Tie as tie
 

@@ -6,7 +6,7 @@ use Rattle.paper.specs.Computed.ReadPack.{readPack}
 use Rattle.paper.specs.Tables.Layout.{Tables, nameSlotSize, definitionSize, rangeSlotSize, referenceSize}
 use Rattle.room.proofs.Sizes.{RoomIn, lacking, having, roomy, part-long, parts-sized}
 use Rattle.room.proofs.Whole.{short-room, reads}
-use Rattle.pack.proofs.Body.{refusals-clear}
+use Rattle.pack.proofs.Answer.{refusals-clear}
 use Rattle.pack.proofs.Kept.{part-kept}
 use Rattle.pack.proofs.read_pack.Statement.{statement}
 use Rattle.pack.proofs.read_pack.Tie as tie
