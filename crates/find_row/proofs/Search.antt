@@ -17,7 +17,7 @@ use Rattle.paper.specs.Rows.Flat.{RowFound}
 use Rattle.paper.specs.Rows.Lookup.{fromZero}
 use Rattle.paper.proofs.Rows.Rising.{risingFrom}
 use Rattle.paper.proofs.Rows.Search.{found-one, found-row, from-zero, rising-at}
-use Rattle.row.specs.Sought.{RowSought, found, none-below}
+use Rattle.find_row.specs.Sought.{RowSought, found, none-below}
 
 -- ---- the loop
 

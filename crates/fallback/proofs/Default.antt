@@ -25,7 +25,7 @@ use Rattle.by_name.specs.Lookup.{said, FindsCategory}
 use Rattle.by_name.specs.declared.CategoryFound.{CategoryFound}
 use Rattle.by_name.specs.declared.CategoryFound.the-variants.{Category}
 use Rattle.cover.specs.Fallback.{fallbackRow}
-use Rattle.row.specs.Fallback.{foundRow}
+use Rattle.fallback.specs.Fallback.{foundRow}
 use Rattle.cover.specs.declared.Fallback.{Fallback}
 use Rattle.cover.specs.declared.Fallback.the-variants.{Category as Default, Nothing}
 
@@ -35,10 +35,6 @@ fallback-one (Default x) (Default y) e = let f : x ≡ y = cc in ap Default f
 fallback-one (Default x) Nothing e = nil-cons (sym e)
 fallback-one Nothing (Default y) e = nil-cons e
 fallback-one Nothing Nothing e = refl
-
-pub one-fallback : (d : Fallback) → length (fallbackRow d) ≤ 1
-one-fallback (Default number) = omega arith
-one-fallback Nothing = omega arith
 
 module _ (store table : List ℕ) (count : ℕ) (name : List ℕ) where
   names-many : length (map (nameIn store) (nameSlotsOf table count)) ≡ count

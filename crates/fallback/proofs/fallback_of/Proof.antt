@@ -1,11 +1,11 @@
--- `row::fallback_of` meets its contract: each case is what was found; a number below the limit has 16 bits.
+-- `fallback::fallback_of` meets its contract: each case is what was found; a number below the limit has 16 bits.
 -- Assumes nothing.
 use native.Mathlib.Omega.{arith}
-use Rattle.row.proofs.Default.{found-as, found-below}
+use Rattle.fallback.proofs.Default.{found-as, found-below}
 use Rattle.by_name.specs.declared.CategoryFound.the-variants.{Category, Absent, Refused}
 use borrow.Author.Needs.{needs}
-use Rattle.row.proofs.fallback_of.Statement.{statement}
-use Rattle.row.proofs.fallback_of.Tie as tie
+use Rattle.fallback.proofs.fallback_of.Statement.{statement}
+use Rattle.fallback.proofs.fallback_of.Tie as tie
 
 slice-aggregate-find-category : tie.Need-slice-aggregate-find-category
 slice-aggregate-find-category c = search needs

@@ -1,10 +1,10 @@
--- `row::eval` meets its contract: each turn halves what is left between `lo` and `hi`, and the search of `Search` goes on.
+-- `find_row::eval` meets its contract: each turn halves what is left between `lo` and `hi`, and the search of `Search` goes on.
 -- Assumes nothing.
-use Rattle.row.proofs.Search.{Search, search-start, search-up, search-down, search-done}
+use Rattle.find_row.proofs.Search.{Search, search-start, search-up, search-down, search-done}
 use native.Mathlib.Omega.{arith}
 use Prim.Native.Nat.{_-_}
-use Rattle.row.proofs.eval.Statement.{statement}
-use Rattle.row.proofs.eval.Tie as tie
+use Rattle.find_row.proofs.eval.Statement.{statement}
+use Rattle.find_row.proofs.eval.Tie as tie
 
 abbrev Inv-loop : tie.InvT-loop
 Inv-loop boundaries c lo₀ hi₀ lo hi = Search boundaries c lo hi
