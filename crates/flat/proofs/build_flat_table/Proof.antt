@@ -8,7 +8,7 @@ use Rattle.paper.specs.Tables.Layout.{Tables}
 use Rattle.table_rules.proofs.Tests.{untrue, passed, clash}
 use Rattle.fill_rows.proofs.Fills.{one-fallback}
 use Rattle.row.proofs.Meets.{few-names}
-use Rattle.flat.specs.Built.{FlatRoom}
+use Rattle.fill_flat.specs.Walked.{FlatRoom}
 use Rattle.flat.proofs.Promise.{of-bytes, builds-apart, buildable, builds-flat}
 use borrow.Author.Needs.{needs}
 use Rattle.flat.proofs.build_flat_table.Statement.{statement}
