@@ -34,7 +34,8 @@ use Rattle.row.specs.Built as rows
 use Rattle.row.specs.declared.Built as rows-built
 use Rattle.row.specs.declared.Built.the-variants as rows-are
 use Rattle.row.proofs.Promise as row
-use Rattle.flat.specs.Built.{BuildsFlat, FlatRoom}
+use Rattle.fill_flat.specs.Walked.{FlatRoom}
+use Rattle.flat.specs.Built.{BuildsFlat}
 use Rattle.flat.specs.Built as flat-table
 use Rattle.flat.specs.declared.Built as flat-built
 use Rattle.flat.specs.declared.Built.the-variants as flat-is

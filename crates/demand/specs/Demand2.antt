@@ -20,7 +20,8 @@ use Rattle.paper.specs.declared.Counts.{Counts}
 use Rattle.paper.specs.declared.Refusal.{Refusal}
 use Rattle.fill_rows.specs.Walked.{RowRoom}
 use Rattle.row.specs.Built.{BuildsRows}
-use Rattle.flat.specs.Built.{FlatRoom, BuildsFlat}
+use Rattle.fill_flat.specs.Walked.{FlatRoom}
+use Rattle.flat.specs.Built.{BuildsFlat}
 use Rattle.flat.specs.declared.Built.the-variants.{Flat}
 use Rattle.row.specs.declared.RowCounts.{RowCounts}
 use Rattle.row.specs.declared.Built.the-variants.{Rows}

@@ -1,3 +1,2 @@
-pub mod Runs
-pub mod Fills
+-- The promise, and what it gives to those who look up.
 pub mod Promise

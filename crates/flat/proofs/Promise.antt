@@ -40,8 +40,9 @@ use Rattle.fill_rows.specs.declared.Need.{Need}
 use Rattle.fallback.proofs.Default.{fallback-met}
 use Rattle.row.proofs.Meets.{readable, boundaries-met, rows-met}
 use Rattle.row.proofs.Promise.{set-ahead, starts-ahead, or-no, longest-any}
-use Rattle.flat.specs.Built.{FlatRoom, answerTo, given, filled, leaves, BuildsFlat}
-use Rattle.flat.specs.Walked.{Buildable, FlatFilled, Builds, BuildsOf}
+use Rattle.fill_flat.specs.Walked.{FlatRoom, Buildable, FlatFilled}
+use Rattle.flat.specs.Built.{answerTo, given, filled, leaves, BuildsFlat}
+use Rattle.flat.specs.Made.{Builds, BuildsOf}
 use Rattle.flat.specs.declared.Built.{Built}
 use Rattle.flat.specs.declared.Built.the-variants.{Flat, Refused}
 

@@ -1,9 +1,7 @@
 -- What `build_flat_table` promises: its answer, and what the two lent slices hold afterwards, in refusals too. Both follow from the tables handed
 -- in and from what was lent: `flatBuilt` is the paper's answer, `given` the enum's case for it, `leaves` the memory that it leaves.
 -- Assumes nothing.
-use Prim.Native.Nat.{ℕ}
 use mathlib.Core.Path.{_≡_}
-use mathlib.Core.List.{List}
 use mathlib.Core.Option.{Option}
 use lib.ListN.{length}
 use Rattle.paper.specs.CharDef.Reading.{Reading}
@@ -14,13 +12,9 @@ use Rattle.paper.specs.Tables.Layout.{Tables}
 use Rattle.paper.specs.Computed.HandedIn.{decoded, handedIn}
 use Rattle.paper.specs.declared.Counts.{Counts}
 use Rattle.row.specs.Built.{ahead}
+use Rattle.fill_flat.specs.Walked.{FlatRoom}
 use Rattle.flat.specs.declared.Built.{Built}
 use Rattle.flat.specs.declared.Built.the-variants.{Flat, Refused}
-
--- the two lent slices
-pub record FlatRoom : Type 0 where
-  pub index : List ℕ
-  pub pool : List ℕ
 
 -- ---- the answer
 

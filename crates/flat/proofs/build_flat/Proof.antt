@@ -5,7 +5,7 @@ use denote.Ref.{now}
 use lib.Seq.{length-take-le}
 use Rattle.paper.specs.Sizes.{bmpSize}
 use Rattle.paper.proofs.Tables.Laws.{short}
-use Rattle.flat.specs.Built.{FlatRoom}
+use Rattle.fill_flat.specs.Walked.{FlatRoom}
 use Rattle.flat.proofs.Promise.{flat-overlong, index-short, pool-short, flat-made}
 use borrow.Author.Needs.{needs}
 use Rattle.flat.proofs.build_flat.Statement.{statement}

@@ -1,23 +1,23 @@
--- The walk over the slots of two tables that fills a flat table: what it asks and what it leaves. What the private functions promise; over tables that
--- hold together it is the reading's flat table.
+-- The walk over the slots of two tables that fills a flat table: what it asks and what it leaves. Over tables that hold together it is the
+-- reading's flat table, as the promise of crate `flat` shows.
 -- Assumes nothing.
 use Prim.Native.Nat.{ℕ, _≤_, _<_}
 use mathlib.Core.Path.{_≡_}
 use mathlib.Core.Bool.{cond}
 use mathlib.Core.List.{List, []}
-use mathlib.Core.Option.{some}
 use lib.Dec.{ltb}
 use lib.ListN.{length, getD}
 use lib.Seq.{sets}
 use Rattle.paper.specs.Sizes.{maxRowPlaces}
 use Rattle.paper.specs.Lists.{joined}
-use Rattle.paper.specs.CharDef.Reading.{Reading}
-use Rattle.paper.specs.Rows.Covering.{boundaries, rows}
 use Rattle.paper.specs.Rows.Flat.{RowFound, entryOf, offsetOf}
 use Rattle.cover.specs.Slots.{slotsGot}
 use Rattle.fill_rows.specs.Walked.{rowsOf, Readable}
-use Rattle.flat.specs.declared.Built.{Built}
-use Rattle.flat.specs.Built.{FlatRoom, answerTo, given, leaves}
+
+-- the two lent slices
+pub record FlatRoom : Type 0 where
+  pub index : List ℕ
+  pub pool : List ℕ
 
 abbrev pub smaller : ℕ → ℕ → ℕ
 smaller a b = cond (ltb b a) b a
@@ -42,11 +42,3 @@ pub record FlatFilled (bs : List ℕ) (ws : List (List ℕ)) (lent after : FlatR
   pub long : length (after .index) ≡ length (lent .index)
   pub entries : (c : ℕ) → c < length (lent .index) → EntryAt bs ws c (getD (after .index) c 0)
   pub pool : after .pool ≡ sets (lent .pool) 0 (joined ws)
-
--- refused or built, by every reading that has these boundaries and rows
-pub record Builds (r : Reading) (lent after : FlatRoom) (a : Built) : Type 0 where
-  pub answer : a ≡ given r (answerTo (some r) lent)
-  pub memory : after ≡ leaves r (answerTo (some r) lent) lent
-
-abbrev pub BuildsOf : List ℕ → List (List ℕ) → FlatRoom → FlatRoom → Built → Type 0
-BuildsOf bs ws lent after a = (r : Reading) → bs ≡ boundaries r → ws ≡ rows r → Builds r lent after a

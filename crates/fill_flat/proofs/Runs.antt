@@ -10,7 +10,7 @@ use lib.Dec.{ltb}
 use lib.ListN.{length, getD, set, length-set}
 use lib.Seq.{getD-set-same, getD-set-other}
 use borrow.Author.Tests.{lt-ltb, le-ltb, ltb-false}
-use Rattle.flat.specs.Walked.{smaller, Spread}
+use Rattle.fill_flat.specs.Walked.{smaller, Spread}
 
 pub second-smaller : (a b : ℕ) → b < a → b ≡ smaller a b
 second-smaller a b h = rw (lt-ltb b a h)

@@ -1,11 +1,11 @@
--- `flat::spread` meets its contract: the places from the first up to the one it has come to have the entry. Assumes nothing.
+-- `fill_flat::spread` meets its contract: the places from the first up to the one it has come to have the entry. Assumes nothing.
 use Prim.Native.Nat.{_≤_, _-_}
 use native.Mathlib.Omega.{arith}
 use lib.ListN.{length}
-use Rattle.flat.specs.Walked.{Spread}
-use Rattle.flat.proofs.Runs.{smaller-most, spread-none, spread-more, spread-done}
-use Rattle.flat.proofs.spread.Statement.{statement}
-use Rattle.flat.proofs.spread.Tie as tie
+use Rattle.fill_flat.specs.Walked.{Spread}
+use Rattle.fill_flat.proofs.Runs.{smaller-most, spread-none, spread-more, spread-done}
+use Rattle.fill_flat.proofs.spread.Statement.{statement}
+use Rattle.fill_flat.proofs.spread.Tie as tie
 
 abbrev Inv-loop : tie.InvT-loop
 Inv-loop index₀ from to entry end i₀ index i = (from ≤ i) × Spread from i entry index₀ index

@@ -30,8 +30,7 @@ use Rattle.walk.proofs.Walk.{onward}
 use Rattle.cover.proofs.Notes.{length-stamps, sets-append}
 use Rattle.cover.proofs.FirstSeen.{stamps-old}
 use Rattle.fill_rows.proofs.Fills.{walk-begins, walk-goes, walk-ends, walk-rises, row-is}
-use Rattle.flat.specs.Built.{FlatRoom}
-use Rattle.flat.specs.Walked.{Spread, Buildable, EntryAt, FlatFilled}
+use Rattle.fill_flat.specs.Walked.{FlatRoom, Spread, Buildable, EntryAt, FlatFilled}
 
 -- ---- lists
 

@@ -1,4 +1,4 @@
--- `flat::fill_flat` meets its contract: each turn of the walk fills one row and the entries up to the next boundary. The walk stays in a window.
+-- `fill_flat::fill_flat` meets its contract: each turn of the walk fills one row and the entries up to the next boundary. The walk stays in a window.
 -- Assumes nothing.
 use Prim.Native.Nat.{_≤_, _-_}
 use native.Mathlib.Omega.{arith}
@@ -9,9 +9,9 @@ use Rattle.window.specs.Near.{noBoundary, InWindow}
 use Rattle.cover.specs.Slots.{slotsGot}
 use Rattle.cover.specs.Fallback.{fallbackRow}
 use Rattle.fill_rows.specs.Walked.{boundariesOf, rowOf}
-use Rattle.flat.proofs.Fills.{Filling, walk-start, next-rises, row-fits, walk-turn, walk-done}
-use Rattle.flat.proofs.fill_flat.Statement.{statement}
-use Rattle.flat.proofs.fill_flat.Tie as tie
+use Rattle.fill_flat.proofs.Fills.{Filling, walk-start, next-rises, row-fits, walk-turn, walk-done}
+use Rattle.fill_flat.proofs.fill_flat.Statement.{statement}
+use Rattle.fill_flat.proofs.fill_flat.Tie as tie
 
 abbrev Inv-loop : tie.InvT-loop
 Inv-loop ranges references count fallback seen₀ near₀ index₀ pool₀ w₀ rows₀ at₀ seen near index pool w rows at =

@@ -1,0 +1,3 @@
+-- The laws of an entry's run and of the walk.
+pub mod Runs
+pub mod Fills
