@@ -1,9 +1,9 @@
--- `char_def::fill_tables` meets its contract: zero tables hold nothing, and the tables at the end are the reading's. Assumes nothing.
+-- `fill::fill_tables` meets its contract: zero tables hold nothing, and the tables at the end are the reading's. Assumes nothing.
 use mathlib.Core.Path.{refl}
-use Rattle.char_def.proofs.Filled.{fill-start, categories-long, filled}
+use Rattle.fill.proofs.Filled.{fill-start, categories-long, filled}
 use borrow.Author.Needs.{needs}
-use Rattle.char_def.proofs.fill_tables.Statement.{statement}
-use Rattle.char_def.proofs.fill_tables.Tie as tie
+use Rattle.fill.proofs.fill_tables.Statement.{statement}
+use Rattle.fill.proofs.fill_tables.Tie as tie
 
 slice-aggregate-walk-lines : tie.Need-slice-aggregate-walk-lines
 slice-aggregate-walk-lines c = search needs

@@ -1,14 +1,14 @@
 -- Memory that holds a reading, with its slots written out, is the reading's layout in room of the sizes.
 -- Assumes nothing.
-use Prim.Native.Nat.{ℕ, _*_, _≤_}
+use Prim.Native.Nat.{ℕ, _*_, _-_, _≤_}
 use native.Mathlib.Omega.{arith}
-use mathlib.Core.Path.{_≡_, sym, ap, _∙_}
+use mathlib.Core.Path.{_≡_, refl, sym, ap, _∙_}
 use mathlib.Core.List.{List, [], _++_, append-nil}
 use lib.ListN.{length, drop, replicate, drop-of-length-le}
 use Rattle.paper.specs.Sizes.{maxCategories, maxNameBytes, maxCategoryLines, maxRanges, maxReferences}
-use Rattle.paper.specs.CharDef.Reading.{Reading, Answer}
+use Rattle.paper.specs.CharDef.Reading.{Reading, Answer, nameBytes, references}
 use Rattle.paper.specs.Computed.ReadText.{nothingRead}
-use Rattle.paper.specs.Tables.Layout.{Tables, layout, inRoom, countsOf, nameSlotSize, definitionSize, rangeSlotSize, referenceSize}
+use Rattle.paper.specs.Tables.Layout.{Tables, layout, inRoom, countsOf, nameSlots, rangeSlots, nameSlotSize, definitionSize, rangeSlotSize, referenceSize}
 use Rattle.paper.specs.Tables.Lent.{padded}
 use Rattle.paper.specs.declared.Counts.{Counts}
 use Rattle.paper.proofs.Tables.Append.{padded-length}
@@ -17,10 +17,33 @@ use Rattle.slot.specs.Slots.{written}
 use Rattle.slot.proofs.Written.{written-room}
 use Rattle.entry.specs.Steps.{Memory, Held}
 use Rattle.room.specs.Sized.{noTables, AcceptedInto}
-use Rattle.char_def.specs.Lines.{WalkEnded}
-use Rattle.char_def.proofs.Text.{held-nothing}
+use Rattle.lines.specs.Lines.{WalkEnded}
 
 -- ---- before
+
+none-padded : (n : ℕ) → replicate n 0 ≡ padded n []
+unfolding padded
+none-padded n = let e : n ≡ n - 0 = omega arith in ap (λ (k : ℕ). replicate {A = ℕ} k 0) e
+
+-- zero memory of the sizes holds nothing
+held-nothing : (a b c d e : List ℕ) → a ≡ padded maxNameBytes [] → b ≡ replicate maxCategories 0 → c ≡ padded (definitionSize * maxCategoryLines) []
+    → d ≡ padded (rangeSlotSize * maxRanges) [] → e ≡ padded (referenceSize * maxReferences) []
+    → Held nothingRead (record { store = a; slots = b; definitions = c; ranges = d; references = e })
+    (record { categories = 0; definitions = 0; ranges = 0; references = 0; bytes = 0 })
+unfolding nothingRead nameBytes references nameSlots rangeSlots
+held-nothing a b c d e p q r s t =
+    record {
+      names = record { count-is = refl; bytes-is = refl; few = omega arith; short = omega arith; stored = p; slotted = q ∙ none-padded maxCategories };
+      definitions-few = omega arith;
+      definitions-are = refl;
+      in-definitions = r;
+      ranges-few = omega arith;
+      ranges-are = refl;
+      in-ranges = s;
+      references-few = omega arith;
+      references-are = refl;
+      in-references = t;
+    }
 
 module _ {t : Tables} (e : t ≡ inRoom noTables) where
   names-zero : t .names ≡ padded maxNameBytes []

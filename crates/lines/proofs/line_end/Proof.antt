@@ -1,11 +1,11 @@
--- `char_def::line_end` meets its contract: the loop keeps `Seeking`.
+-- `lines::line_end` meets its contract: the loop keeps `Seeking`.
 -- Assumes nothing.
 use Prim.Native.Nat.{_-_}
 use lib.ListN.{length}
 use borrow.Author.Needs.{needs}
-use Rattle.char_def.proofs.Scan.{Seeking, seek-start, seek-found, seek-on, seek-end}
-use Rattle.char_def.proofs.line_end.Statement.{statement}
-use Rattle.char_def.proofs.line_end.Tie as tie
+use Rattle.lines.proofs.Scan.{Seeking, seek-start, seek-found, seek-on, seek-end}
+use Rattle.lines.proofs.line_end.Statement.{statement}
+use Rattle.lines.proofs.line_end.Tie as tie
 
 abbrev Inv-loop : tie.InvT-loop
 Inv-loop text start at₀ at = Seeking text start at

@@ -21,8 +21,8 @@ use Rattle.scan.specs.Asked.{Inside}
 use Rattle.line.specs.Bytes.{lineBytes}
 use Rattle.slot.specs.Slots.{slotWord}
 use Rattle.entry.specs.Steps.{Memory, Held, Working, Went, enterFoundBytes}
-use Rattle.char_def.specs.Lines.{readBytes, readAll, linesFrom, WalkEnded}
-use Rattle.char_def.proofs.Scan.{lines-all, lines-none, lines-next, end-inside}
+use Rattle.lines.specs.Lines.{readBytes, readAll, linesFrom, WalkEnded}
+use Rattle.lines.proofs.Scan.{lines-all, lines-none, lines-next, end-inside}
 
 -- ---- memory that holds a reading has the sizes
 

@@ -9,12 +9,10 @@ use lib.ListN.{length, drop}
 use Rattle.paper.specs.Lists.{cut}
 use Rattle.paper.specs.CharDef.Reading.{Reading, Answer, accepted, refused, isLF}
 use Rattle.paper.specs.Computed.ReadText.{afterLine, nothingRead}
-use Rattle.paper.specs.Tables.Layout.{Tables}
 use Rattle.paper.specs.declared.Counts.{Counts}
 use Rattle.line.specs.Bytes.{lineBytes}
-use Rattle.room.specs.Sized.{AcceptedInto}
-use Rattle.char_def.specs.declared.Walk.{Walk}
-use Rattle.char_def.specs.declared.Walk.the-variants.{Ended, Stopped}
+use Rattle.lines.specs.declared.Walk.{Walk}
+use Rattle.lines.specs.declared.Walk.the-variants.{Ended, Stopped}
 use Rattle.entry.specs.Steps.{Memory, Held, enterFoundBytes}
 
 -- lines as bytes, from line k, entered behind a reading
@@ -42,10 +40,3 @@ pub record WalkEnded (a : Answer) (m : Memory) (c : Counts) : Type 0 where
 abbrev pub Walked : Answer → Memory → Walk → Type 0
 Walked a m (Ended c) = WalkEnded a m c
 Walked a m (Stopped x) = a ≡ refused (x .number) (x .place)
-
--- ---- tables of the sizes
-
--- the tables are those of the reading; nothing is said of them where the walk stopped
-abbrev pub TablesFilled : Answer → Tables → Walk → Type 0
-TablesFilled a after (Ended c) = AcceptedInto a after c
-TablesFilled a after (Stopped x) = a ≡ refused (x .number) (x .place)

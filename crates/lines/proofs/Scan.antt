@@ -16,7 +16,7 @@ use Rattle.paper.specs.Text.Scalar.{lf}
 use Rattle.paper.specs.CharDef.Reading.{isLF}
 use Rattle.paper.proofs.Lists.Parts.{take-part}
 use Rattle.entry.proofs.Inside.{until-length}
-use Rattle.char_def.specs.Lines.{linesFrom}
+use Rattle.lines.specs.Lines.{linesFrom}
 
 -- ---- the scan
 

@@ -1,13 +1,13 @@
--- `char_def::walk_lines` meets its contract: the loop keeps `Walking`, and memory that holds a reading has the sizes.
+-- `lines::walk_lines` meets its contract: the loop keeps `Walking`, and memory that holds a reading has the sizes.
 -- Assumes nothing.
 use Prim.Native.Nat.{_+_, _-_}
 use native.Mathlib.Omega.{arith}
 use lib.ListN.{length}
 use borrow.Author.Needs.{needs}
-use Rattle.char_def.proofs.Walking.{Walking, walk-start, walk-inside, walk-stops, walk-on, walk-ends, working, store-long, slots-long, definitions-long, ranges-long, references-long}
-use Rattle.char_def.proofs.Scan.{end-inside}
-use Rattle.char_def.proofs.walk_lines.Statement.{statement}
-use Rattle.char_def.proofs.walk_lines.Tie as tie
+use Rattle.lines.proofs.Walking.{Walking, walk-start, walk-inside, walk-stops, walk-on, walk-ends, working, store-long, slots-long, definitions-long, ranges-long, references-long}
+use Rattle.lines.proofs.Scan.{end-inside}
+use Rattle.lines.proofs.walk_lines.Statement.{statement}
+use Rattle.lines.proofs.walk_lines.Tie as tie
 
 abbrev Inv-loop : tie.InvT-loop
 Inv-loop text names₀ slots₀ definitions₀ ranges₀ references₀ counts₀ line₀ at₀ names slots definitions ranges references counts line at =

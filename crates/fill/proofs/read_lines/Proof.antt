@@ -1,10 +1,10 @@
--- `char_def::read_lines` meets its contract: tables of the sizes are zero before the walk, and again where it stops. Assumes nothing.
+-- `fill::read_lines` meets its contract: tables of the sizes are zero before the walk, and again where it stops. Assumes nothing.
 use native.Mathlib.Omega.{arith}
 use mathlib.Core.Path.{_∙_}
 use borrow.Author.Needs.{needs}
 use Rattle.room.proofs.Sizes.{cleared-sized}
-use Rattle.char_def.proofs.read_lines.Statement.{statement}
-use Rattle.char_def.proofs.read_lines.Tie as tie
+use Rattle.fill.proofs.read_lines.Statement.{statement}
+use Rattle.fill.proofs.read_lines.Tie as tie
 
 zero-all-requires : tie.Need-zero-all-requires
 zero-all-requires c κs = search needs
