@@ -6,7 +6,7 @@ use mathlib.Core.List.{List}
 use Rattle.paper.specs.declared.Counts.{Counts}
 use Rattle.paper.specs.declared.Outcome.{Outcome}
 use Rattle.paper.specs.declared.Outcome.the-variants.{Accepted, Refused}
-use Rattle.terminal.specs.Answer.{codeOf, countsAfter}
+use Rattle.exported.specs.Answer.{codeOf, countsAfter}
 
 pub record Sixteen (n : Counts) : Type 0 where
   pub categories : n .categories < 0x1_0000

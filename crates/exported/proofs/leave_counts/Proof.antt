@@ -1,8 +1,8 @@
--- `terminal::leave_counts` meets its contract: zero where the number clears the room. Assumes nothing.
-use Rattle.terminal.proofs.Whole.{taken-is, left-is}
+-- `exported::leave_counts` meets its contract: zero where the number clears the room. Assumes nothing.
+use Rattle.exported.proofs.Given.{taken-is, left-is}
 use borrow.Author.Needs.{needs}
-use Rattle.terminal.proofs.leave_counts.Statement.{statement}
-use Rattle.terminal.proofs.leave_counts.Tie as tie
+use Rattle.exported.proofs.leave_counts.Statement.{statement}
+use Rattle.exported.proofs.leave_counts.Tie as tie
 
 is-clearing-requires : tie.Need-is-clearing-requires
 is-clearing-requires c κs = search needs

@@ -1,10 +1,10 @@
--- `terminal::give` meets its contract: by the case of the outcome. Assumes nothing.
+-- `exported::give` meets its contract: by the case of the outcome. Assumes nothing.
 use native.Mathlib.Omega.{arith}
 use mathlib.Core.Path.{refl}
-use Rattle.terminal.proofs.Whole.{gives-counts, gives-refusal}
+use Rattle.exported.proofs.Given.{gives-counts, gives-refusal}
 use borrow.Author.Needs.{needs}
-use Rattle.terminal.proofs.give.Statement.{statement}
-use Rattle.terminal.proofs.give.Tie as tie
+use Rattle.exported.proofs.give.Statement.{statement}
+use Rattle.exported.proofs.give.Tie as tie
 
 enum-known-outcome : tie.Need-enum-known-outcome
 enum-known-outcome c = search needs

@@ -1,12 +1,12 @@
--- `terminal::put_counts` meets its contract: five numbers one behind another. Assumes nothing.
+-- `exported::put_counts` meets its contract: five numbers one behind another. Assumes nothing.
 use native.Mathlib.Omega.{arith}
 use mathlib.Core.Path.{sym, ap, _∙_}
 use Rattle.paper.specs.Numbers.Bytes.{le}
 use Rattle.paper.specs.Tables.Lent.{patch}
-use Rattle.terminal.proofs.Whole.{count-patches}
+use Rattle.exported.proofs.Given.{count-patches}
 use borrow.Author.Needs.{needs}
-use Rattle.terminal.proofs.put_counts.Statement.{statement}
-use Rattle.terminal.proofs.put_counts.Tie as tie
+use Rattle.exported.proofs.put_counts.Statement.{statement}
+use Rattle.exported.proofs.put_counts.Tie as tie
 
 cast-put-u16 : tie.Need-cast-put-u16
 cast-put-u16 c = search needs
