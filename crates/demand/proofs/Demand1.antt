@@ -28,7 +28,8 @@ use Rattle.paper.proofs.Pack.Kept.{fits-rules}
 use Rattle.paper.proofs.Pack.Trip.{pack-is}
 use Rattle.room.proofs.Promise as promise
 use Rattle.char_def.specs.Parse.{Parsed}
-use Rattle.row.specs.Built.{BuildsRows, RowRoom}
+use Rattle.fill_rows.specs.Walked.{RowRoom}
+use Rattle.row.specs.Built.{BuildsRows}
 use Rattle.row.specs.Built as rows
 use Rattle.row.specs.declared.Built as rows-built
 use Rattle.row.specs.declared.Built.the-variants as rows-are

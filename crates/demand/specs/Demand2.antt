@@ -18,7 +18,8 @@ use Rattle.paper.specs.Rows.Numbers.{definitionAt, lookupDefinition, categoryNa
 use Rattle.paper.specs.Tables.Layout.{Tables}
 use Rattle.paper.specs.declared.Counts.{Counts}
 use Rattle.paper.specs.declared.Refusal.{Refusal}
-use Rattle.row.specs.Built.{RowRoom, BuildsRows}
+use Rattle.fill_rows.specs.Walked.{RowRoom}
+use Rattle.row.specs.Built.{BuildsRows}
 use Rattle.flat.specs.Built.{FlatRoom, BuildsFlat}
 use Rattle.flat.specs.declared.Built.the-variants.{Flat}
 use Rattle.row.specs.declared.RowCounts.{RowCounts}

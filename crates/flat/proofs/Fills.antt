@@ -25,11 +25,11 @@ use Rattle.window.specs.Near.{noBoundary}
 use Rattle.walk.specs.Next.{endsOf, boundaryAfter}
 use Rattle.cover.specs.Slots.{slotsGot, coversGot}
 use Rattle.cover.specs.Stamps.{stamped, Rowed}
-use Rattle.row.specs.Walked.{boundariesOf, rowOf, rowsOf, Clean}
+use Rattle.fill_rows.specs.Walked.{boundariesOf, rowOf, rowsOf, Clean}
 use Rattle.walk.proofs.Walk.{onward}
 use Rattle.cover.proofs.Notes.{length-stamps, sets-append}
 use Rattle.cover.proofs.FirstSeen.{stamps-old}
-use Rattle.row.proofs.Fills.{walk-begins, walk-goes, walk-ends, walk-rises, row-is}
+use Rattle.fill_rows.proofs.Fills.{walk-begins, walk-goes, walk-ends, walk-rises, row-is}
 use Rattle.flat.specs.Built.{FlatRoom}
 use Rattle.flat.specs.Walked.{Spread, Buildable, EntryAt, FlatFilled}
 

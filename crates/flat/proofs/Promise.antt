@@ -34,10 +34,10 @@ use Rattle.paper.proofs.Rows.Flat.{index-length, index-at}
 use Rattle.paper.proofs.Tables.Trip.{handed-holds}
 use Rattle.row.specs.Built.{ahead}
 use Rattle.cover.specs.Slots.{slotsGot}
-use Rattle.row.specs.Fallback.{foundRow}
-use Rattle.row.specs.Walked.{boundariesOf, rowsOf, longestOf, NeedIs}
-use Rattle.row.specs.declared.Need.{Need}
-use Rattle.row.proofs.Default.{fallback-met}
+use Rattle.fallback.specs.Fallback.{foundRow}
+use Rattle.fill_rows.specs.Walked.{boundariesOf, rowsOf, longestOf, NeedIs}
+use Rattle.fill_rows.specs.declared.Need.{Need}
+use Rattle.fallback.proofs.Default.{fallback-met}
 use Rattle.row.proofs.Meets.{readable, boundaries-met, rows-met}
 use Rattle.row.proofs.Promise.{set-ahead, starts-ahead, or-no, longest-any}
 use Rattle.flat.specs.Built.{FlatRoom, answerTo, given, filled, leaves, BuildsFlat}

@@ -15,7 +15,7 @@ use Rattle.paper.specs.CharDef.Reading.{Reading}
 use Rattle.paper.specs.Rows.Covering.{boundaries, rows}
 use Rattle.paper.specs.Rows.Flat.{RowFound, entryOf, offsetOf}
 use Rattle.cover.specs.Slots.{slotsGot}
-use Rattle.row.specs.Walked.{rowsOf, Readable}
+use Rattle.fill_rows.specs.Walked.{rowsOf, Readable}
 use Rattle.flat.specs.declared.Built.{Built}
 use Rattle.flat.specs.Built.{FlatRoom, answerTo, given, leaves}
 

@@ -16,7 +16,7 @@ ghost use Rattle.paper.specs.Sizes.{bmpSize, maxRowPlaces};
 ghost use Rattle.paper.specs.Rows.Flat.{entryOf};
 ghost use Rattle.cover.specs.Slots.{slotsGot};
 ghost use Rattle.cover.specs.Fallback.{fallbackRow};
-ghost use Rattle.row.specs.Walked.{boundariesOf, rowsOf, Clean};
+ghost use Rattle.fill_rows.specs.Walked.{boundariesOf, rowsOf, Clean};
 ghost use Rattle.flat.specs.Built.{BuildsFlat};
 ghost use Rattle.flat.specs.Walked.{smaller, Spread, Buildable, FlatFilled, BuildsOf};
 
@@ -139,7 +139,7 @@ fn build_flat(
     requires { ⌜ Buildable (now ranges) (now references) count (fallbackRow fallback) ⌝ }
     ensures { λ r. ⌜ BuildsOf (boundariesOf (slotsGot 0 count (now (ranges .entry)))) (rowsOf (fallbackRow fallback) (slotsGot 0 count (now (ranges .entry))) (now (references .entry))) (record { index = now (index .entry); pool = now (pool .entry) }) (record { index = now (index .exit); pool = now (pool .exit) }) r ⌝ }
 {
-    let need = row::rows_need(ranges, references, count, fallback);
+    let need = fill_rows::rows_need(ranges, references, count, fallback);
     let longest = need.longest;
     let places = need.places;
     if MAX_FLAT_ROW < longest {
@@ -190,7 +190,7 @@ pub fn build_flat_table<'a>(
             place: 0,
         });
     }
-    let fallback = row::fallback_of(names, categories, counts.categories);
+    let fallback = fallback::fallback_of(names, categories, counts.categories);
     build_flat(
         ranges,
         references,

@@ -20,8 +20,8 @@ use Rattle.paper.specs.Rows.Lookup.{indexOdd, fromZero, rowMissing, pastPool, a
 use Rattle.paper.specs.declared.Refusal.{Refusal}
 use Rattle.paper.proofs.Apart.{zero-one, refuses-gives}
 use Rattle.paper.proofs.Rows.Lookup.{looks-some}
-use Rattle.row.specs.Sought.{RowSought}
-use Rattle.row.proofs.Search.{sought-found}
+use Rattle.find_row.specs.Sought.{RowSought}
+use Rattle.find_row.proofs.Search.{sought-found}
 use Rattle.packed.specs.declared.Span.{Span}
 use Rattle.packed.proofs.Tests.{no-entries, some-entries}
 use Rattle.lookup.specs.declared.Located.{Located}

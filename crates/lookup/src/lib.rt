@@ -93,7 +93,12 @@ fn in_rows(
             place: 0,
         });
     }
-    of_row(row_starts, row_lengths, places, row::eval(boundaries, c))
+    of_row(
+        row_starts,
+        row_lengths,
+        places,
+        find_row::eval(boundaries, c),
+    )
 }
 
 // Where the categories of a code point stand: 14 where it is no scalar value, 26 where the tables do not hold together. By the flat table for

@@ -1,6 +1,3 @@
--- The laws that the proofs share: the search; what the walk leaves over tables that hold together; the promise.
-pub mod Search
-pub mod Fills
+-- The laws that the proofs share, here and in the builder of the flat table: what the walk leaves over tables that hold together; the promise.
 pub mod Meets
-pub mod Default
 pub mod Promise

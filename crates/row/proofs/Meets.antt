@@ -26,7 +26,7 @@ use Rattle.window.specs.Near.{noBoundary}
 use Rattle.walk.specs.Next.{endsOf}
 use Rattle.cover.specs.Slots.{slotsGot, numbersGot, slotHolds, coversGot}
 use Rattle.cover.proofs.Entries.{slots-got, numbers-got}
-use Rattle.row.specs.Walked.{boundariesOf, rowOf, rowsOf, Readable}
+use Rattle.fill_rows.specs.Walked.{boundariesOf, rowOf, rowsOf, Readable}
 
 -- ---- numbers
 

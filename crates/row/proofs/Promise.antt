@@ -26,15 +26,17 @@ use Rattle.paper.specs.declared.Counts.{Counts}
 use Rattle.paper.proofs.Apart.{zero-one, none-some}
 use Rattle.paper.proofs.Lists.Facts.{T→true, joined-length, offsets-length}
 use Rattle.paper.proofs.Rows.Boundaries.{row-for-each}
-use Rattle.row.specs.Built.{RowRoom, answerTo, given, ahead, filled, leaves, BuildsRows}
 use Rattle.cover.specs.Slots.{slotsGot}
-use Rattle.row.specs.Fallback.{foundRow}
-use Rattle.row.specs.Walked.{boundariesOf, rowsOf, larger, longestOf, NeedIs, Filled, RoomIs, RoomFor, Made, Kept, MadeOr17}
-use Rattle.row.specs.declared.Need.{Need}
+use Rattle.fallback.specs.Fallback.{foundRow}
+use Rattle.fallback.proofs.Default.{fallback-met}
+use Rattle.fill_rows.specs.Walked.{RowRoom, boundariesOf, rowsOf, larger, longestOf, NeedIs, Filled}
+use Rattle.fill_rows.specs.declared.Need.{Need}
+use Rattle.row_room.specs.Room.{RoomIs}
+use Rattle.row.specs.Built.{answerTo, given, ahead, filled, leaves, BuildsRows}
+use Rattle.row.specs.Made.{RoomFor, Made, Kept, MadeOr17}
 use Rattle.row.specs.declared.RowCounts.{RowCounts}
 use Rattle.row.specs.declared.Built.{Built}
 use Rattle.row.specs.declared.Built.the-variants.{Rows, Refused}
-use Rattle.row.proofs.Default.{fallback-met}
 use Rattle.row.proofs.Meets.{boundaries-met, rows-met}
 
 -- ---- refused or made, by the need and the test of the room

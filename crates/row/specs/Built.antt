@@ -14,15 +14,9 @@ use Rattle.paper.specs.Rows.Build as paper
 use Rattle.paper.specs.Tables.Layout.{Tables}
 use Rattle.paper.specs.Computed.HandedIn.{decoded, handedIn}
 use Rattle.paper.specs.declared.Counts.{Counts}
+use Rattle.fill_rows.specs.Walked.{RowRoom}
 use Rattle.row.specs.declared.Built.{Built}
 use Rattle.row.specs.declared.Built.the-variants.{Rows, Refused}
-
--- the four lent slices
-pub record RowRoom : Type 0 where
-  pub boundaries : List ℕ
-  pub starts : List ℕ
-  pub lengths : List ℕ
-  pub pool : List ℕ
 
 -- ---- the answer
 

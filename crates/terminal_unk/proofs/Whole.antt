@@ -22,7 +22,7 @@ use Rattle.paper.specs.declared.Counts.{Counts}
 use Rattle.paper.specs.declared.Refusal.{Refusal}
 use Rattle.paper.proofs.Tables.Append.{patch-patch}
 use Rattle.paper.proofs.Tables.Laws.{got-in}
-use Rattle.unk.specs.declared.UnkCounts.{UnkCounts}
+use Rattle.unk_enter.specs.declared.UnkCounts.{UnkCounts}
 use Rattle.unk.specs.declared.UnkOutcome.{UnkOutcome}
 use Rattle.unk.specs.declared.UnkOutcome.the-variants.{Accepted, Refused}
 use Rattle.unk.specs.Layout.{UnkTables}

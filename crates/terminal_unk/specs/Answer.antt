@@ -17,7 +17,7 @@ use Rattle.paper.specs.Tables.Lent.{num, zeroed, patch}
 use Rattle.paper.specs.Tables.Reader.{clears}
 use Rattle.paper.specs.Unk.Bad.{UnkAnswer, refused}
 use Rattle.paper.specs.declared.Counts.{Counts}
-use Rattle.unk.specs.declared.UnkCounts.{UnkCounts}
+use Rattle.unk_enter.specs.declared.UnkCounts.{UnkCounts}
 use Rattle.unk.specs.declared.UnkOutcome.{UnkOutcome}
 use Rattle.unk.specs.declared.UnkOutcome.the-variants.{Accepted, Refused}
 use Rattle.unk.specs.Layout.{UnkTables}

@@ -262,7 +262,7 @@ fn agrees<'a>(
         b'p' => packed_item(list, one, index),
         b'c' => place_item(list, one, flat),
         _ => {
-            let row = row::eval(boundaries, code_at(list, one)) as u64;
+            let row = find_row::eval(boundaries, code_at(list, one)) as u64;
             row == number_at(list, after_field(list, one))
         }
     }

@@ -6,7 +6,7 @@ use mathlib.Core.List.{List}
 use denote.Ref.{now}
 use Rattle.paper.specs.Tables.Layout.{Tables}
 use Rattle.table_rules.proofs.Tests.{untrue, passed, clash}
-use Rattle.row.proofs.Default.{one-fallback}
+use Rattle.fill_rows.proofs.Fills.{one-fallback}
 use Rattle.row.proofs.Meets.{few-names}
 use Rattle.flat.specs.Built.{FlatRoom}
 use Rattle.flat.proofs.Promise.{of-bytes, builds-apart, buildable, builds-flat}

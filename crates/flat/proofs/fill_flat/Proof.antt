@@ -8,7 +8,7 @@ use Rattle.paper.specs.Sizes.{maxRowPlaces}
 use Rattle.window.specs.Near.{noBoundary, InWindow}
 use Rattle.cover.specs.Slots.{slotsGot}
 use Rattle.cover.specs.Fallback.{fallbackRow}
-use Rattle.row.specs.Walked.{boundariesOf, rowOf}
+use Rattle.fill_rows.specs.Walked.{boundariesOf, rowOf}
 use Rattle.flat.proofs.Fills.{Filling, walk-start, next-rises, row-fits, walk-turn, walk-done}
 use Rattle.flat.proofs.fill_flat.Statement.{statement}
 use Rattle.flat.proofs.fill_flat.Tie as tie

@@ -1,7 +1,7 @@
 -- `row::build_rows` meets its contract: the need, the test of the room, and what the second walk fills.
 -- Assumes nothing.
 use denote.Ref.{now}
-use Rattle.row.specs.Built.{RowRoom}
+use Rattle.fill_rows.specs.Walked.{RowRoom}
 use Rattle.row.proofs.Promise.{rows-made, rows-kept}
 use borrow.Author.Needs.{needs}
 use Rattle.row.proofs.build_rows.Statement.{statement}

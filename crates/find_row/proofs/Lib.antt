@@ -1,0 +1,2 @@
+-- The laws of the search, also for what its answer says in a lookup.
+pub mod Search

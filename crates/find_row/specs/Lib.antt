@@ -1,0 +1,2 @@
+-- What `eval` promises.
+pub mod Sought

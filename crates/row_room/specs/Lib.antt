@@ -1,0 +1,2 @@
+-- What `has_room` promises.
+pub mod Room
