@@ -22,7 +22,7 @@ use Rattle.unk.specs.declared.UnkOutcome.{UnkOutcome}
 use Rattle.unk.specs.declared.UnkOutcome.the-variants.{Accepted, Refused}
 use Rattle.unk.specs.Layout.{UnkTables}
 use Rattle.unk.specs.Parse.{hasRoom, overReading, given, leaves}
-use Rattle.terminal.specs.Answer.{placeUnit, countsSize}
+use Rattle.exported.specs.Answer.{placeUnit, countsSize}
 
 -- ---- one number: 0, or number + 256 · place
 
