@@ -14,8 +14,8 @@ use batch::put_part;
 use batch::put_u16;
 use paper::Counts;
 use paper::Outcome;
-use unk::UnkCounts;
 use unk::UnkOutcome;
+use unk_enter::UnkCounts;
 
 const NAMES: usize = 16384;
 

@@ -1,6 +1,3 @@
--- The laws that the proofs share.
-pub mod Scan
-pub mod Walking
+-- The laws that the proof stands on.
 pub mod Text
-pub mod Filled
 pub mod Whole

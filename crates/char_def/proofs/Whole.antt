@@ -28,7 +28,7 @@ use Rattle.paper.proofs.CharDef.BadLine.{bad-number}
 use Rattle.paper.proofs.CharDef.Answers.{refused-text, too-long-exactly, ill-formed-exactly}
 use Rattle.room.specs.Sized.{ReadInto}
 use Rattle.room.proofs.Whole.{nothing-written, reads}
-use Rattle.char_def.specs.Lines.{readBytes, readAll}
+use Rattle.lines.specs.Lines.{readBytes, readAll}
 use Rattle.char_def.specs.Parse.{Parsed}
 use Rattle.char_def.proofs.Text.{read-bytes}
 

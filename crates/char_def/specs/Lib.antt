@@ -1,3 +1,2 @@
--- What the functions of `char_def` promise: the lines of a text, and the reader itself.
-pub mod Lines
+-- What the reader of char.def promises.
 pub mod Parse

@@ -13,7 +13,7 @@ use Rattle.paper.specs.Unk.Entry.{Unk, UnkFits}
 use Rattle.paper.proofs.Unk.Details.{word-is, details-are}
 use Rattle.paper.proofs.Unk.Text.{unk-fits-one}
 use Rattle.unk.specs.Parse.{countsOf}
-use Rattle.unk.specs.declared.UnkCounts.{UnkCounts}
+use Rattle.unk_enter.specs.declared.UnkCounts.{UnkCounts}
 use Rattle.unk.specs.declared.UnkOutcome.the-variants.{Accepted}
 use Rattle.unk.proofs.Promise as promise
 use Rattle.word.proofs.Promise as word

@@ -18,7 +18,7 @@ use Rattle.paper.specs.declared.Counts.{Counts}
 use Rattle.paper.specs.declared.Refusal.{Refusal}
 use Rattle.unk.specs.Layout.{UnkTables, layout}
 use Rattle.unk.specs.Parse.{hasRoom, countsOf, inRoom, past, behind, cleared, ParsesUnk}
-use Rattle.unk.specs.declared.UnkCounts.{UnkCounts}
+use Rattle.unk_enter.specs.declared.UnkCounts.{UnkCounts}
 use Rattle.unk.specs.declared.UnkOutcome.{UnkOutcome}
 use Rattle.unk.specs.declared.UnkOutcome.the-variants.{Accepted, Refused}
 use Rattle.word.specs.Words.{wordIdsIn, wordEntryIn, wordDetailsIn, found, entry, held}

@@ -1,5 +1,3 @@
-pub mod Counting
-pub mod Defined
-pub mod Padding
-pub mod Body
+pub mod Kept
+pub mod Answer
 pub mod Promise

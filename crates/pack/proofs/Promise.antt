@@ -27,7 +27,7 @@ use Rattle.paper.specs.declared.Outcome.the-variants.{Accepted, Refused}
 use Rattle.paper.proofs.Pack.Trip.{write-read, read-rules, read-write, accepted-length}
 use Rattle.paper.proofs.Pack.Broken as paper
 use Rattle.room.proofs.Promise as room
-use Rattle.pack.proofs.Body.{refusals-clear}
+use Rattle.pack.proofs.Answer.{refusals-clear}
 
 -- ---- NOTHING IS LEFT OPEN: two outcomes that the promise allows coincide, in the answer and in the memory
 

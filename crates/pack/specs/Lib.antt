@@ -1,3 +1,2 @@
 -- What the pack's reader promises below `read_pack`.
-pub mod Parts
 pub mod Whole

@@ -17,8 +17,11 @@ use Rattle.paper.proofs.Lists.Seen.{same-eq}
 
 -- ---- two lists
 
+pub unlike : (a b : List ℕ) → (a ≡ b → ⊥) → false ≡ same a b
+unlike a b h = sym (T→false (same a b) (not-T (same a b) (λ t. h (same-eq a b t))))
+
 pub differs : (a b : List ℕ) → (length a ≡ length b → ⊥) → false ≡ same a b
-differs a b h = sym (T→false (same a b) (not-T (same a b) (λ t. h (ap length (same-eq a b t)))))
+differs a b h = unlike a b (λ e. h (ap length e))
 
 module _ (a b : List ℕ) (i : ℕ) (v : Bool) (inv : same (drop i a) (drop i b) ≡ v) where
   same-fails : i < length a → i < length b → (getD a i 0 ≡ getD b i 0 → ⊥) → false ≡ v
@@ -57,14 +60,26 @@ module _ (text store : List ℕ) (start end at : ℕ) where
       let b : length (take (end - start) (drop at store)) < end - start = simp (length-take, length-drop) (omega arith) in
       differs (drop start (take end text)) (take (end - start) (drop at store)) (λ e. omega (arith, e))
 
+  -- any one byte that differs
+  pub byte-fails : (i p q : ℕ) → i < end - start → p ≡ start + i → q ≡ at + i → (getD text p 0 ≡ getD store q 0 → ⊥) → false ≡ isThere
+  byte-fails i p q lt ep eq h =
+      unlike (drop start (take end text)) (take (end - start) (drop at store))
+      (λ e. h (ap (λ k. getD text k 0) ep ∙ sym (part-at start end i text lt) ∙ ap (λ l. getD l i 0) e ∙ piece-at at (end - start) i store lt ∙ sym (ap (λ k. getD store k 0) eq)))
+
   pub record Comparing (i : ℕ) : Type 0 where
     pub within : end ≤ length text
     pub room : at + (end - start) ≤ length store
     pub upto : i ≤ end - start
     pub is : same (drop i (drop start (take end text))) (drop i (take (end - start) (drop at store))) ≡ isThere
 
-  pub compare-start : end ≤ length text → at + (end - start) ≤ length store → Comparing 0
-  compare-start w h = record { within = w; room = h; upto = omega arith; is = refl }
+  pub compare-start : (i : ℕ) → i ≡ 0 → end ≤ length text → at + (end - start) ≤ length store → Comparing i
+  compare-start i e w h =
+      record {
+        within = w;
+        room = h;
+        upto = omega arith;
+        is = ap (λ k. same (drop k (drop start (take end text))) (drop k (take (end - start) (drop at store)))) e;
+      }
 
   module _ (i : ℕ) (z : Comparing i) where
     long-text : length (drop start (take end text)) ≡ end - start

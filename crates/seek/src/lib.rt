@@ -11,7 +11,8 @@ pub enum Found {
     Nothing,
 }
 
-// The bytes of the text from `start` to `end` stand in the store at `at`; compared up to the first that differs.
+// The bytes of the text from `start` to `end` stand in the store at `at`. The last byte first, since names often begin alike; then up to the
+// first that differs.
 pub fn holds_at(names: &[u8], at: usize, text: &[u8], start: usize, end: usize) -> bool
     requires { ⌜ (start ≤ end) × (end ≤ length (now text)) ⌝ }
     ensures { λ r. ⌜ r ≡ same (drop start (take end (now (text .entry)))) (take (end - start) (drop at (now (names .entry)))) ⌝ }
@@ -24,6 +25,9 @@ pub fn holds_at(names: &[u8], at: usize, text: &[u8], start: usize, end: usize) 
         return false;
     }
     if names.len() - len < at {
+        return false;
+    }
+    if text[end - 1] != names[at + len - 1] {
         return false;
     }
     let mut i = 0;

@@ -10,9 +10,9 @@ use word::WordFound;
 // One byte over the largest text, so that a text over the limit shows itself.
 const TEXT_ROOM: usize = paper::MAX_TEXT_BYTES + 1;
 
-const ENTRIES_SIZE: usize = paper::MAX_UNK_ENTRIES * unk::ENTRY_BYTES;
+const ENTRIES_SIZE: usize = paper::MAX_UNK_ENTRIES * unk_enter::ENTRY_BYTES;
 
-const OFFSETS_SIZE: usize = paper::MAX_UNK_ENTRIES * unk::OFFSET_BYTES;
+const OFFSETS_SIZE: usize = paper::MAX_UNK_ENTRIES * unk_enter::OFFSET_BYTES;
 
 const PLACES_SIZE: usize = paper::MAX_CATEGORIES * table::CATEGORY_BYTES;
 
@@ -78,7 +78,7 @@ fn put_category(
     entries: &[u8],
     i: usize,
 ) -> Report {
-    let at = unk::ENTRY_BYTES * show::few(i) + MARK_AT;
+    let at = unk_enter::ENTRY_BYTES * show::few(i) + MARK_AT;
     let mark = table::get_u16(entries, at) as usize;
     if mark == 0 {
         return r.byte(room, b'-');

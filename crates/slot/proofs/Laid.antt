@@ -13,11 +13,14 @@ use Rattle.paper.specs.CharDef.Reading.{nameBytes}
 use Rattle.paper.specs.Rows.Numbers.{nameIn}
 use Rattle.paper.specs.Tables.Layout.{nameSlots}
 use Rattle.paper.specs.Tables.Lent.{padded}
+use Rattle.paper.proofs.Apart.{true-false}
+use Rattle.paper.proofs.Lists.Facts.{T→true}
+use Rattle.paper.proofs.Lists.Seen.{same-refl}
 use Rattle.paper.proofs.Tables.Trip.{places-length}
 use Rattle.seek.specs.declared.Found.the-variants.{At, Nothing}
 use Rattle.slot.specs.Slots.{slotUnit, slotWord, wordSlot}
 use Rattle.slot.specs.Laid.{Laid, FindsIn}
-use Rattle.seek.proofs.Compare.{differs}
+use Rattle.seek.proofs.Compare.{unlike, differs}
 use Rattle.seek.proofs.Search.{Searching, search-start, search-hit, search-on, search-done}
 
 -- ---- a slot and its name
@@ -96,9 +99,16 @@ module _ {store slots : List ℕ} {count : ℕ} {n : List ℕ} {i : ℕ} (l : Lo
       is-name : (names : List (List ℕ)) (bytes : ℕ) → Laid names store slots count bytes → same n (take len (drop at store)) ≡ same n (getD names i [])
       is-name names bytes z = ap₂ (λ k m. same n (take k (drop m store))) b a ∙ ap (same n) (slot-says z i lt .is)
 
-      module _ (r : Bool) (e : r ≡ same n (take len (drop at store))) where
-        pub look-hit : r ≡ true → FindsIn store slots count n (At i)
-        look-hit h names bytes z = search-hit (l .seen names bytes z) _ _ (next names bytes z) (sym h ∙ e ∙ is-name names bytes z)
+      pub look-hit : (r : Bool) → r ≡ same n (take len (drop at store)) → r ≡ true → FindsIn store slots count n (At i)
+      look-hit r e h names bytes z = search-hit (l .seen names bytes z) _ _ (next names bytes z) (sym h ∙ e ∙ is-name names bytes z)
 
-        pub look-on : r ≡ false → Looking store slots count n (i + 1)
-        look-on h = passed (λ names bytes z. sym h ∙ e ∙ is-name names bytes z)
+    -- other bytes at its place, as many as are sought: a name of that length is another one
+    pub look-on : (at len : ℕ) → at ≡ getD slots i 0 / slotUnit → len ≡ length n → (r : Bool) → r ≡ same n (take len (drop at store)) → r ≡ false
+        → Looking store slots count n (i + 1)
+    look-on at len a whole r e h =
+        passed
+        (λ names bytes z.
+        unlike n (getD names i [])
+        (λ d.
+        let b : len ≡ getD slots i 0 % slotUnit = whole ∙ ap length d ∙ sym (slot-says z i lt .long) in
+        true-false (sym (T→true (same n n) (same-refl n)) ∙ ap (same n) d ∙ sym (sym h ∙ e ∙ is-name at len a b names bytes z))))

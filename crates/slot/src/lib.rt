@@ -25,7 +25,8 @@ fn slot_len(slot: u32) -> usize
     (slot % SLOT_UNIT) as usize
 }
 
-// The lowest number whose name is the text from `start` to `end`. Lengths first: most slots cost one comparison.
+// The lowest number whose name is the text from `start` to `end`. Bytes first, of which the last decides most
+// often: where all names have one length, its test only costs.
 pub fn find_name(
     names: &[u8],
     slots: &[u32],
@@ -41,8 +42,8 @@ pub fn find_name(
     let mut i = 0;
     while i < count {
         let slot = slots[i];
-        if slot_len(slot) == len {
-            if seek::holds_at(names, slot_start(slot), text, start, end) {
+        if seek::holds_at(names, slot_start(slot), text, start, end) {
+            if slot_len(slot) == len {
                 return Found::At(i);
             }
             i += 1;

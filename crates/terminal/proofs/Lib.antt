@@ -1,5 +1,4 @@
 -- The laws of the exported entries.
-pub mod Clears
 pub mod Whole
 pub mod PackPlaces
 pub mod Places

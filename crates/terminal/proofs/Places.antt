@@ -19,7 +19,7 @@ use Rattle.paper.proofs.CharDef.Accepts.{accepts}
 use Rattle.paper.proofs.CharDef.Answers.{refused-text}
 use Rattle.paper.proofs.Pack.Broken.{refused-exactly}
 use Rattle.paper.proofs.Pack.Trip.{pack-is}
-use Rattle.terminal.specs.Room.{Exportable}
+use Rattle.exported.specs.Room.{Exportable}
 use Rattle.terminal.proofs.PackPlaces.{broken-near}
 
 -- an answer that has room

@@ -20,8 +20,8 @@ use Rattle.paper.specs.declared.Counts.{Counts}
 use Rattle.paper.proofs.Tables.Laws.{value-le, patch-length}
 use Rattle.room.proofs.Promise.{handed-back}
 use Rattle.unk.specs.Layout.{UnkTables}
-use Rattle.terminal.specs.Answer.{countsSize, countBytes, countsAfter, overLent, Exports}
-use Rattle.terminal.specs.Room.{Sixteen}
+use Rattle.exported.specs.Answer.{countsSize, countBytes, countsAfter, overLent, Exports}
+use Rattle.exported.specs.Room.{Sixteen}
 use Rattle.terminal_unk.specs.Answer.{countsIn, handedOver, ExportsUnk}
 use Rattle.terminal_unk.proofs.Whole.{counted}
 

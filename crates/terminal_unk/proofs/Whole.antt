@@ -22,12 +22,12 @@ use Rattle.paper.specs.declared.Counts.{Counts}
 use Rattle.paper.specs.declared.Refusal.{Refusal}
 use Rattle.paper.proofs.Tables.Append.{patch-patch}
 use Rattle.paper.proofs.Tables.Laws.{got-in}
-use Rattle.unk.specs.declared.UnkCounts.{UnkCounts}
+use Rattle.unk_enter.specs.declared.UnkCounts.{UnkCounts}
 use Rattle.unk.specs.declared.UnkOutcome.{UnkOutcome}
 use Rattle.unk.specs.declared.UnkOutcome.the-variants.{Accepted, Refused}
 use Rattle.unk.specs.Layout.{UnkTables}
 use Rattle.unk.specs.Parse.{hasRoom, overReading, answerTo, given, leaves, ParsesUnk}
-use Rattle.terminal.specs.Answer.{placeUnit, countsSize}
+use Rattle.exported.specs.Answer.{placeUnit, countsSize}
 use Rattle.terminal_unk.specs.Answer.{codeOf, unkCountBytes, unkCountsSize, countsAfter, countsIn, handedOver, answerOver, ExportsUnk}
 use Rattle.terminal_unk.specs.Room.{noCounts, countsRead, Gives}
 

@@ -17,12 +17,12 @@ use Rattle.paper.specs.Tables.Lent.{num, zeroed, patch}
 use Rattle.paper.specs.Tables.Reader.{clears}
 use Rattle.paper.specs.Unk.Bad.{UnkAnswer, refused}
 use Rattle.paper.specs.declared.Counts.{Counts}
-use Rattle.unk.specs.declared.UnkCounts.{UnkCounts}
+use Rattle.unk_enter.specs.declared.UnkCounts.{UnkCounts}
 use Rattle.unk.specs.declared.UnkOutcome.{UnkOutcome}
 use Rattle.unk.specs.declared.UnkOutcome.the-variants.{Accepted, Refused}
 use Rattle.unk.specs.Layout.{UnkTables}
 use Rattle.unk.specs.Parse.{hasRoom, overReading, given, leaves}
-use Rattle.terminal.specs.Answer.{placeUnit, countsSize}
+use Rattle.exported.specs.Answer.{placeUnit, countsSize}
 
 -- ---- one number: 0, or number + 256 · place
 

@@ -9,10 +9,10 @@ use lib.Dec.{leb}
 use lib.ListN.{length}
 use Rattle.paper.specs.Sizes.{maxCategories}
 use Rattle.paper.specs.declared.Counts.{Counts}
-use Rattle.unk.specs.declared.UnkCounts.{UnkCounts}
+use Rattle.unk_enter.specs.declared.UnkCounts.{UnkCounts}
 use Rattle.unk.specs.declared.UnkOutcome.{UnkOutcome}
 use Rattle.unk.specs.declared.UnkOutcome.the-variants.{Accepted, Refused}
-use Rattle.terminal.specs.Answer.{countsSize}
+use Rattle.exported.specs.Answer.{countsSize}
 use Rattle.terminal_unk.specs.Answer.{codeOf, countsIn, countsAfter}
 
 -- more categories than any reading has

@@ -1,16 +1,16 @@
 // What C calls to read unk.def: `parse_unk` over the tables of a reading that are handed in with their counts, through one u64, 0 or
 // number + 256 * place, and a lent slice for the counts of what was read. Nothing checks what C hands over, so nothing is asked of it.
+use exported::BYTES_AT;
+use exported::COUNTS_SIZE;
+use exported::DEFINITIONS_AT;
+use exported::PLACE_UNIT;
+use exported::RANGES_AT;
+use exported::REFERENCES_AT;
 use paper::Counts;
 use paper::MAX_CATEGORIES;
 use paper::ROOM_SHORT;
-use terminal::BYTES_AT;
-use terminal::COUNTS_SIZE;
-use terminal::DEFINITIONS_AT;
-use terminal::PLACE_UNIT;
-use terminal::RANGES_AT;
-use terminal::REFERENCES_AT;
-use unk::UnkCounts;
 use unk::UnkOutcome;
+use unk_enter::UnkCounts;
 ghost use mathlib.Core.Path.{_≡_};
 ghost use Prim.Native.Nat.{_≤_};
 ghost use lib.ListN.{length};
@@ -69,7 +69,7 @@ fn give(outcome: UnkOutcome, counts: &mut [u8]) -> u64
             0
         }
         UnkOutcome::Refused(x) => {
-            terminal::leave_counts(counts, UNK_COUNTS_SIZE, x.number);
+            exported::leave_counts(counts, UNK_COUNTS_SIZE, x.number);
             x.number as u64 + PLACE_UNIT * x.place as u64
         }
     }

@@ -3,8 +3,8 @@ use replay::after_field;
 use replay::byte_at;
 use replay::number_at;
 use replay::rooms::GUARD;
-use unk::UnkCounts;
 use unk::UnkOutcome;
+use unk_enter::UnkCounts;
 
 // The rooms by number, each with its guard.
 pub const ENTRIES: usize = 32768 + GUARD;

@@ -21,9 +21,10 @@ use Rattle.paper.proofs.Apart.{zero-one, refuses-gives}
 use Rattle.paper.proofs.Lists.Facts.{T→true, T→false, true→T, false→T}
 use Rattle.paper.proofs.Lists.Seen.{same-eq, same-refl}
 use Rattle.paper.proofs.Rows.Lowest.{lowest-first}
-use Rattle.unk.specs.Layout.{UnkTables, wordBytes, markAmong, entryTable, layout}
-use Rattle.unk.specs.Lines.{markSaid, markIn, entryBytes}
-use Rattle.unk.specs.Members.{having, listsFrom, placeTable, memberTable}
+use Rattle.unk.specs.Layout.{UnkTables, markAmong, entryTable, layout}
+use Rattle.unk_enter.specs.Fields.{wordBytes}
+use Rattle.unk_enter.specs.Lines.{markSaid, markIn, entryBytes}
+use Rattle.unk_members.specs.Members.{having, listsFrom, placeTable, memberTable}
 use Rattle.unk.specs.Filled.{marksOf, laidOut}
 use Rattle.unk.proofs.Room.{tables-is}
 use Rattle.unk.proofs.Fill.{mark-most}

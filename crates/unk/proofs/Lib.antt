@@ -1,13 +1,5 @@
-pub mod Copy
 pub mod Ends
-pub mod Patches
-pub mod Marks
-pub mod Entered
 pub mod Walking
-pub mod Tallies
-pub mod Places
-pub mod Blocks
-pub mod Passes
 pub mod Room
 pub mod Fill
 pub mod Laid

@@ -31,19 +31,20 @@ use Rattle.paper.proofs.Unk.Details.{details-fit}
 use Rattle.paper.proofs.Unk.Members.{category-entries}
 use Rattle.paper.proofs.Unk.Refused.{unk-refused-exactly}
 use Rattle.paper.proofs.Unk.Text.{unk-accepts}
-use Rattle.unk.specs.declared.UnkCounts.{UnkCounts}
+use Rattle.unk_enter.specs.declared.UnkCounts.{UnkCounts}
 use Rattle.unk.specs.declared.UnkOutcome.{UnkOutcome}
 use Rattle.unk.specs.declared.UnkOutcome.the-variants.{Accepted, Refused}
-use Rattle.unk.specs.Layout.{UnkTables, layout, entrySize, offsetSize}
-use Rattle.unk.specs.Lines.{markIn, entryBytes}
-use Rattle.unk.specs.Members.{listsFrom, tallies, placeTable, memberTable}
+use Rattle.unk.specs.Layout.{UnkTables, layout}
+use Rattle.unk_enter.specs.Fields.{entrySize, offsetSize}
+use Rattle.unk_enter.specs.Lines.{markIn, entryBytes}
+use Rattle.unk_members.specs.Members.{listsFrom, tallies, placeTable, memberTable}
 use Rattle.unk.specs.Parse.{entriesSize, offsetsSize, placesSize, membersSize, hasRoom, overReading, answerTo, countsOf, given, inRoom, past, behind, cleared, leaves, ParsesUnk}
 use Rattle.unk.specs.Filled.{marksOf, laidOut}
 use Rattle.unk.proofs.Room.{tables-is, RoomIn, room-is}
-use Rattle.unk.proofs.Entered.{wide-word}
-use Rattle.unk.proofs.Tallies.{tallies-length, sum-tallies}
-use Rattle.unk.proofs.Places.{place-length}
-use Rattle.unk.proofs.Passes.{lists-tallies}
+use Rattle.unk_enter.proofs.Entered.{wide-word}
+use Rattle.unk_members.proofs.Tallies.{tallies-length, sum-tallies}
+use Rattle.unk_members.proofs.Places.{place-length}
+use Rattle.unk_members.proofs.Passes.{lists-tallies}
 use Rattle.unk.proofs.Laid.{laid-out-is}
 use Rattle.unk.proofs.Whole.{named, few-categories, handed-true, handed-decoded}
 

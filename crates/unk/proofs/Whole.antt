@@ -31,12 +31,12 @@ use Rattle.paper.proofs.Tables.Laws.{pieces-length}
 use Rattle.paper.proofs.Tables.Trip.{says}
 use Rattle.paper.proofs.Text.Code.{decode-complete, well-formed}
 use Rattle.paper.proofs.Unk.Refused.{unk-first-bad, unk-refused-exactly}
-use Rattle.unk.specs.declared.UnkCounts.{UnkCounts}
+use Rattle.unk_enter.specs.declared.UnkCounts.{UnkCounts}
 use Rattle.unk.specs.declared.UnkOutcome.{UnkOutcome}
 use Rattle.unk.specs.declared.Judged.{Judged}
 use Rattle.unk.specs.declared.UnkOutcome.the-variants.{Accepted, Refused}
 use Rattle.unk.specs.Layout.{UnkTables, layout}
-use Rattle.unk.specs.Lines.{markIn}
+use Rattle.unk_enter.specs.Lines.{markIn}
 use Rattle.unk.specs.Parse.{entriesSize, offsetsSize, placesSize, membersSize, hasRoom, overReading, answerTo, countsOf, given, inRoom, past, behind, cleared, leaves, ParsesUnk}
 use Rattle.unk.specs.Filled.{LinesRead, Judges, SoundInput, UnsoundInput, noTables, laidOut}
 use Rattle.unk.proofs.Room.{RoomIn, room-is, cleared-is}

@@ -16,14 +16,14 @@ use Rattle.paper.specs.Computed.ReadUnk.{Entries, entries-are, stops}
 use Rattle.paper.specs.Tables.Layout.{Tables}
 use Rattle.paper.specs.Tables.Reader.{clears}
 use Rattle.paper.specs.declared.Counts.{Counts}
-use Rattle.unk.specs.declared.UnkCounts.{UnkCounts}
+use Rattle.unk_enter.specs.declared.UnkCounts.{UnkCounts}
 use Rattle.unk.specs.declared.UnkOutcome.{UnkOutcome}
 use Rattle.unk.specs.declared.UnkOutcome.the-variants.{Accepted, Refused}
 use Rattle.unk.specs.declared.Judged.{Judged}
 use Rattle.unk.specs.declared.Judged.the-variants.{Sound, Unsound}
 use Rattle.unk.specs.Layout.{UnkTables}
-use Rattle.unk.specs.Lines.{entryBytes}
-use Rattle.unk.specs.Members.{listsFrom, placeTable, memberTable}
+use Rattle.unk_enter.specs.Lines.{entryBytes}
+use Rattle.unk_members.specs.Members.{listsFrom, placeTable, memberTable}
 use Rattle.unk.specs.Parse.{inRoom, overReading, entriesSize, offsetsSize, placesSize, membersSize}
 
 pub record Sized (t : UnkTables) : Type 0 where

@@ -6,9 +6,10 @@ use mathlib.Core.List.{List, [], _∷_, _++_, map}
 use lib.Dec.{eqb}
 use lib.ListN.{length}
 use Rattle.paper.specs.Lists.{any, joined}
-use Rattle.paper.specs.Numbers.Bytes.{le, u16Size, u32Size}
+use Rattle.paper.specs.Numbers.Bytes.{le, u32Size}
 use Rattle.paper.specs.Unk.Entry.{Unk}
 use Rattle.paper.specs.Tables.Layout.{nameSlots, nameSlotBytes, referenceSize}
+use Rattle.unk_enter.specs.Fields.{wordBytes}
 
 pub record UnkTables : Type 0 where
   -- left, right, cost, and the number of the entry's category and 1, or 0
@@ -21,26 +22,6 @@ pub record UnkTables : Type 0 where
   pub places : List ℕ
   -- the entries of each category, one category behind another
   pub members : List ℕ
-
--- the bytes of an entry of `entries`, and of `offsets`
-abbrev pub entrySize : ℕ
-entrySize = 8
-
-abbrev pub offsetSize : ℕ
-offsetSize = 4
-
--- where its fields stand in an entry, behind the left
-abbrev pub rightAt : ℕ
-rightAt = 2
-
-abbrev pub costAt : ℕ
-costAt = 4
-
-abbrev pub markAt : ℕ
-markAt = 6
-
-unfoldable pub wordBytes : (left right cost mark : ℕ) → List ℕ
-wordBytes left right cost mark = le u16Size left ++ (le u16Size right ++ (le u16Size cost ++ le u16Size mark))
 
 -- the first category, from number c on, that lists entry k, and 1; 0 where none does
 abbrev pub markAmong : ℕ → List (List ℕ) → ℕ → ℕ

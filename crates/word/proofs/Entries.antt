@@ -17,7 +17,8 @@ use Rattle.paper.proofs.Apart.{none-some}
 use Rattle.paper.proofs.Lists.Facts.{joined-map}
 use Rattle.paper.proofs.Tables.Laws.{table-length}
 use Rattle.paper.proofs.Unk.Numbered.{some-same}
-use Rattle.unk.specs.Layout.{wordBytes, markAmong, entryTable, entrySize}
+use Rattle.unk_enter.specs.Fields.{wordBytes, entrySize}
+use Rattle.unk.specs.Layout.{markAmong, entryTable}
 
 pub found-below : {A : Type 0} (l : List A) (k : ℕ) (x : A) → getElem? l k ≡ some x → k < length l
 found-below [] k x e = none-some e

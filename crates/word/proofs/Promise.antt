@@ -33,7 +33,8 @@ use Rattle.paper.proofs.Unk.Details.{stored-length, details-fit, details-are, w
 use Rattle.paper.proofs.Unk.Line.{sixteen}
 use Rattle.paper.proofs.Unk.Members.{category-unknown}
 use Rattle.paper.proofs.Unk.Numbered.{some-same}
-use Rattle.unk.specs.Layout.{UnkTables, layout, wordBytes, entryTable, entrySize, offsetSize}
+use Rattle.unk_enter.specs.Fields.{wordBytes, entrySize, offsetSize}
+use Rattle.unk.specs.Layout.{UnkTables, layout, entryTable}
 use Rattle.unk.specs.Parse.{inRoom, past, behind, entriesSize, offsetsSize, placesSize, membersSize}
 use Rattle.unk.proofs.Promise.{FitsRoom, tables-fit}
 use Rattle.unk.proofs.Whole.{named, handed-true, handed-decoded}

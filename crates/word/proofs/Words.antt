@@ -17,7 +17,7 @@ use Rattle.paper.specs.Unk.Entry.{lengthBytes}
 use Rattle.paper.specs.declared.Refusal.{Refusal}
 use Rattle.paper.proofs.Apart.{zero-one}
 use Rattle.paper.proofs.Tables.Laws.{got-in, num-part}
-use Rattle.unk.specs.Layout.{entrySize, offsetSize, rightAt, costAt}
+use Rattle.unk_enter.specs.Fields.{entrySize, offsetSize, rightAt, costAt}
 use Rattle.word.specs.declared.Span.{Span}
 use Rattle.word.specs.declared.SpanFound.{SpanFound}
 use Rattle.word.specs.declared.SpanFound.the-variants as span-found

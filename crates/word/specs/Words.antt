@@ -13,7 +13,7 @@ use Rattle.paper.specs.Rows.Numbers.{entryAt}
 use Rattle.paper.specs.Tables.Layout.{NameSlot, nameSlotOf, nameSlotSize, referenceSize}
 use Rattle.paper.specs.Tables.Lent.{num}
 use Rattle.paper.specs.Unk.Entry.{lengthBytes}
-use Rattle.unk.specs.Layout.{entrySize, offsetSize, rightAt, costAt}
+use Rattle.unk_enter.specs.Fields.{entrySize, offsetSize, rightAt, costAt}
 use Rattle.word.specs.declared.Span.{Span}
 use Rattle.word.specs.declared.SpanFound.{SpanFound}
 use Rattle.word.specs.declared.SpanFound.the-variants as span-found

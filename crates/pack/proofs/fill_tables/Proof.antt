@@ -1,6 +1,5 @@
 -- `pack::fill_tables` meets its contract. Assumes nothing.
-use native.Mathlib.Omega.{arith}
-use Rattle.pack.proofs.Body.{head-broke, head-fits, body-near, body-broke, left-over, all-in}
+use Rattle.pack.proofs.Answer.{head-broke, head-fits, body-near, body-broke, left-over, all-in}
 use borrow.Author.Needs.{needs}
 use Rattle.pack.proofs.fill_tables.Statement.{statement}
 use Rattle.pack.proofs.fill_tables.Tie as tie
@@ -9,10 +8,10 @@ read-head-requires : tie.Need-read-head-requires
 read-head-requires c κs = search needs
 
 enum-known-r : tie.Need-enum-known-r
-enum-known-r c = search needs
+enum-known-r c = c .match .keys1
 
 enum-known-head : tie.Need-enum-known-head
-enum-known-head c = search needs
+enum-known-head c = c .match .keys2
 
 read-body-requires : tie.Need-read-body-requires
 read-body-requires c κs =
@@ -27,10 +26,10 @@ read-body-requires c κs =
     )
 
 enum-known-r-2 : tie.Need-enum-known-r-2
-enum-known-r-2 c = search needs
+enum-known-r-2 c = c .match2 .keys1
 
 enum-known-bytes : tie.Need-enum-known-bytes
-enum-known-bytes c = search needs
+enum-known-bytes c = c .match2 .keys2
 
 is-padding-requires : tie.Need-is-padding-requires
 is-padding-requires c κs =
@@ -39,19 +38,19 @@ is-padding-requires c κs =
     b .near
 
 same-length : tie.Need-same-length
-same-length c = search needs
+same-length c = (c .before .before .before .before .before .before .before .before .before .before .before .before .before .before .before .read-body .kept .1 .1 .1 .0)
 
 same-length-2 : tie.Need-same-length-2
-same-length-2 c = search needs
+same-length-2 c = (c .before .before .before .before .before .before .before .before .before .before .before .before .before .before .before .read-body .kept .1 .1 .1 .1 .0)
 
 same-length-3 : tie.Need-same-length-3
-same-length-3 c = search needs
+same-length-3 c = (c .before .before .before .before .before .before .before .before .before .before .before .before .before .before .before .read-body .kept .1 .1 .1 .1 .1 .0)
 
 same-length-4 : tie.Need-same-length-4
-same-length-4 c = search needs
+same-length-4 c = (c .before .before .before .before .before .before .before .before .before .before .before .before .before .before .before .read-body .kept .1 .1 .1 .1 .1 .1 .0)
 
 same-length-5 : tie.Need-same-length-5
-same-length-5 c = search needs
+same-length-5 c = (c .before .before .before .before .before .before .before .before .before .before .before .before .before .before .before .read-body .kept .1 .1 .1 .1 .1 .1 .1 .0)
 
 returns : tie.Need-returns
 returns c =
@@ -72,19 +71,19 @@ returns-2 c =
     head-broke (a .pack .now) (rw (c .before .r .given .1) at (c .before .before .before .read-head .ensures))
 
 same-length-6 : tie.Need-same-length-6
-same-length-6 c = search needs
+same-length-6 c = (c .before .before .before .before .before .before .before .before .before .before .before .before .before .read-body .kept .1 .1 .1 .0)
 
 same-length-7 : tie.Need-same-length-7
-same-length-7 c = search needs
+same-length-7 c = (c .before .before .before .before .before .before .before .before .before .before .before .before .before .read-body .kept .1 .1 .1 .1 .0)
 
 same-length-8 : tie.Need-same-length-8
-same-length-8 c = search needs
+same-length-8 c = (c .before .before .before .before .before .before .before .before .before .before .before .before .before .read-body .kept .1 .1 .1 .1 .1 .0)
 
 same-length-9 : tie.Need-same-length-9
-same-length-9 c = search needs
+same-length-9 c = (c .before .before .before .before .before .before .before .before .before .before .before .before .before .read-body .kept .1 .1 .1 .1 .1 .1 .0)
 
 same-length-10 : tie.Need-same-length-10
-same-length-10 c = search needs
+same-length-10 c = (c .before .before .before .before .before .before .before .before .before .before .before .before .before .read-body .kept .1 .1 .1 .1 .1 .1 .1 .0)
 
 returns-3 : tie.Need-returns-3
 returns-3 c =
@@ -98,19 +97,19 @@ returns-3 c =
     (rw (c .before .r2 .given .1) at (c .before .before .before .before .before .before .before .before .before .before .before .before .before .read-body .ensures))
 
 same-length-11 : tie.Need-same-length-11
-same-length-11 c = search needs
+same-length-11 c = (c .before .before .before .before .before .before .before .before .before .before .before .before .before .before .before .read-body .kept .1 .1 .1 .0)
 
 same-length-12 : tie.Need-same-length-12
-same-length-12 c = search needs
+same-length-12 c = (c .before .before .before .before .before .before .before .before .before .before .before .before .before .before .before .read-body .kept .1 .1 .1 .1 .0)
 
 same-length-13 : tie.Need-same-length-13
-same-length-13 c = search needs
+same-length-13 c = (c .before .before .before .before .before .before .before .before .before .before .before .before .before .before .before .read-body .kept .1 .1 .1 .1 .1 .0)
 
 same-length-14 : tie.Need-same-length-14
-same-length-14 c = search needs
+same-length-14 c = (c .before .before .before .before .before .before .before .before .before .before .before .before .before .before .before .read-body .kept .1 .1 .1 .1 .1 .1 .0)
 
 same-length-15 : tie.Need-same-length-15
-same-length-15 c = search needs
+same-length-15 c = (c .before .before .before .before .before .before .before .before .before .before .before .before .before .before .before .read-body .kept .1 .1 .1 .1 .1 .1 .1 .0)
 
 returns-4 : tie.Need-returns-4
 returns-4 c =

@@ -1,13 +1,11 @@
 -- `pack::read_into` meets its contract. Assumes nothing.
-use native.Mathlib.Omega.{arith}
 use mathlib.Core.Path.{_∙_}
 use Rattle.room.proofs.Sizes.{cleared-sized}
-use borrow.Author.Needs.{needs}
 use Rattle.pack.proofs.read_into.Statement.{statement}
 use Rattle.pack.proofs.read_into.Tie as tie
 
 zero-all-requires : tie.Need-zero-all-requires
-zero-all-requires c κs = search needs
+zero-all-requires c κs = tt
 
 fill-tables-requires : tie.Need-fill-tables-requires
 fill-tables-requires c κs =
@@ -16,28 +14,28 @@ fill-tables-requires c κs =
     .before .before .before .before .before .before .before .before .pre)
 
 enum-known-counts : tie.Need-enum-known-counts
-enum-known-counts c = search needs
+enum-known-counts c = c .match .keys1
 
 enum-known-refusal : tie.Need-enum-known-refusal
-enum-known-refusal c = search needs
+enum-known-refusal c = c .match .keys2
 
 zero-all-requires-2 : tie.Need-zero-all-requires-2
-zero-all-requires-2 c κs = search needs
+zero-all-requires-2 c κs = tt
 
 same-length : tie.Need-same-length
-same-length c = search needs
+same-length c = (c .before .before .before .before .before .before .before .before .before .before .before .before .before .fill-tables .kept .1 .0) ∙ (c .before .before .before .before .before .before .before .before .before .before .before .before .before .before .before .before .before .before .before .before .before .before .before .before .before .before .before .before .before .zero-all .kept .0)
 
 same-length-2 : tie.Need-same-length-2
-same-length-2 c = search needs
+same-length-2 c = (c .before .before .before .before .before .before .before .before .before .before .before .before .before .fill-tables .kept .1 .1 .0) ∙ (c .before .before .before .before .before .before .before .before .before .before .before .before .before .before .before .before .before .before .before .before .before .before .before .before .before .before .before .before .before .zero-all .kept .1 .0)
 
 same-length-3 : tie.Need-same-length-3
-same-length-3 c = search needs
+same-length-3 c = (c .before .before .before .before .before .before .before .before .before .before .before .before .before .fill-tables .kept .1 .1 .1 .0) ∙ (c .before .before .before .before .before .before .before .before .before .before .before .before .before .before .before .before .before .before .before .before .before .before .before .before .before .before .before .before .before .zero-all .kept .1 .1 .0)
 
 same-length-4 : tie.Need-same-length-4
-same-length-4 c = search needs
+same-length-4 c = (c .before .before .before .before .before .before .before .before .before .before .before .before .before .fill-tables .kept .1 .1 .1 .1 .0) ∙ (c .before .before .before .before .before .before .before .before .before .before .before .before .before .before .before .before .before .before .before .before .before .before .before .before .before .before .before .before .before .zero-all .kept .1 .1 .1 .0)
 
 same-length-5 : tie.Need-same-length-5
-same-length-5 c = search needs
+same-length-5 c = (c .before .before .before .before .before .before .before .before .before .before .before .before .before .fill-tables .kept .1 .1 .1 .1 .1 .0) ∙ (c .before .before .before .before .before .before .before .before .before .before .before .before .before .before .before .before .before .before .before .before .before .before .before .before .before .before .before .before .before .zero-all .kept .1 .1 .1 .1 .0)
 
 returns : tie.Need-returns
 returns c =
@@ -45,58 +43,34 @@ returns c =
     (c .before .before .before .before .before .before .before .before .before .before .before .before .before .fill-tables .ensures))
 
 same-length-6 : tie.Need-same-length-6
-same-length-6 c =
-    let a = (c .before .before .before .before .before .before .before .before .before .before .before .before .before .before .before .before .before .before
-    .before .before .before .before .before .before .before .before .before .before .before .before .before .before .before .before .before .before .before .before
-    .before .before .before .before .before .before .before .zero-all .kept) in
-    let b = (c .before .before .before .before .before .before .before .before .before .before .before .before .before .before .before .before .before .before
-    .before .before .before .before .before .before .before .before .before .before .before .fill-tables .kept) in
-    let d = (c .before .before .before .before .before .before .before .before .before .before .zero-all2 .kept) in
-    omega arith
+same-length-6 c = (c .before .before .before .before .before .before .before .before .before .before .zero-all2 .kept .0) ∙ (c .before .before .before .before .before .before .before .before .before .before .before .before .before .before .before .before .before .before .before .before .before .before .before .before .before .before .before .before .before .fill-tables .kept .1 .0) ∙ (c .before .before .before .before .before .before .before .before .before .before .before .before .before .before .before .before .before .before .before .before .before .before .before .before .before .before .before .before .before .before .before .before .before .before .before .before .before .before .before .before .before .before .before .before .before .zero-all .kept .0)
 
 same-length-7 : tie.Need-same-length-7
-same-length-7 c =
-    let a = (c .before .before .before .before .before .before .before .before .before .before .before .before .before .before .before .before .before .before
-    .before .before .before .before .before .before .before .before .before .before .before .before .before .before .before .before .before .before .before .before
-    .before .before .before .before .before .before .before .zero-all .kept) in
-    let b = (c .before .before .before .before .before .before .before .before .before .before .before .before .before .before .before .before .before .before
-    .before .before .before .before .before .before .before .before .before .before .before .fill-tables .kept) in
-    let d = (c .before .before .before .before .before .before .before .before .before .before .zero-all2 .kept) in
-    omega arith
+same-length-7 c = (c .before .before .before .before .before .before .before .before .before .before .zero-all2 .kept .1 .0) ∙ (c .before .before .before .before .before .before .before .before .before .before .before .before .before .before .before .before .before .before .before .before .before .before .before .before .before .before .before .before .before .fill-tables .kept .1 .1 .0) ∙ (c .before .before .before .before .before .before .before .before .before .before .before .before .before .before .before .before .before .before .before .before .before .before .before .before .before .before .before .before .before .before .before .before .before .before .before .before .before .before .before .before .before .before .before .before .before .zero-all .kept .1 .0)
 
 same-length-8 : tie.Need-same-length-8
-same-length-8 c =
-    let a = (c .before .before .before .before .before .before .before .before .before .before .before .before .before .before .before .before .before .before
-    .before .before .before .before .before .before .before .before .before .before .before .before .before .before .before .before .before .before .before .before
-    .before .before .before .before .before .before .before .zero-all .kept) in
-    let b = (c .before .before .before .before .before .before .before .before .before .before .before .before .before .before .before .before .before .before
-    .before .before .before .before .before .before .before .before .before .before .before .fill-tables .kept) in
-    let d = (c .before .before .before .before .before .before .before .before .before .before .zero-all2 .kept) in
-    omega arith
+same-length-8 c = (c .before .before .before .before .before .before .before .before .before .before .zero-all2 .kept .1 .1 .0) ∙ (c .before .before .before .before .before .before .before .before .before .before .before .before .before .before .before .before .before .before .before .before .before .before .before .before .before .before .before .before .before .fill-tables .kept .1 .1 .1 .0) ∙ (c .before .before .before .before .before .before .before .before .before .before .before .before .before .before .before .before .before .before .before .before .before .before .before .before .before .before .before .before .before .before .before .before .before .before .before .before .before .before .before .before .before .before .before .before .before .zero-all .kept .1 .1 .0)
 
 same-length-9 : tie.Need-same-length-9
-same-length-9 c = search needs
+same-length-9 c = (c .before .before .before .before .before .before .before .before .before .before .zero-all2 .kept .1 .1 .1 .0) ∙ (c .before .before .before .before .before .before .before .before .before .before .before .before .before .before .before .before .before .before .before .before .before .before .before .before .before .before .before .before .before .fill-tables .kept .1 .1 .1 .1 .0) ∙ (c .before .before .before .before .before .before .before .before .before .before .before .before .before .before .before .before .before .before .before .before .before .before .before .before .before .before .before .before .before .before .before .before .before .before .before .before .before .before .before .before .before .before .before .before .before .zero-all .kept .1 .1 .1 .0)
 
 same-length-10 : tie.Need-same-length-10
-same-length-10 c = search needs
+same-length-10 c = (c .before .before .before .before .before .before .before .before .before .before .zero-all2 .kept .1 .1 .1 .1 .0) ∙ (c .before .before .before .before .before .before .before .before .before .before .before .before .before .before .before .before .before .before .before .before .before .before .before .before .before .before .before .before .before .fill-tables .kept .1 .1 .1 .1 .1 .0) ∙ (c .before .before .before .before .before .before .before .before .before .before .before .before .before .before .before .before .before .before .before .before .before .before .before .before .before .before .before .before .before .before .before .before .before .before .before .before .before .before .before .before .before .before .before .before .before .zero-all .kept .1 .1 .1 .1 .0)
 
 returns-2 : tie.Need-returns-2
 returns-2 c =
-    let s = (c .before .before .before .before .before .before .before .before .before .before .before .before .before .before .before .before .before .before
-    .before .before .before .before .before .before .before .before .before .before .before .before .before .before .before .before .before .before .before .before
-    .before .before .before .before .before .before .before .before .before .before .before .before .before .before .before .before .before .before .before .pre) in
-    let a = (c .before .before .before .before .before .before .before .before .before .before .before .before .before .before .before .before .before .before
-    .before .before .before .before .before .before .before .before .before .before .before .before .before .before .before .before .before .before .before .before
-    .before .before .before .before .before .before .before .zero-all .kept) in
-    let b = (c .before .before .before .before .before .before .before .before .before .before .before .before .before .before .before .before .before .before
-    .before .before .before .before .before .before .before .before .before .before .before .fill-tables .kept) in
+    let s = (c .before .before .before .before .before .before .before .before .before .before .before .before .before .before .before .before .before .before .before .before .before .before .before .before .before .before .before .before .before .before .before .before .before .before .before .before .before .before .before .before .before .before .before .before .before .before .before .before .before .before .before .before .before .before .before .before .before .pre) in
+    let a = (c .before .before .before .before .before .before .before .before .before .before .before .before .before .before .before .before .before .before .before .before .before .before .before .before .before .before .before .before .before .before .before .before .before .before .before .before .before .before .before .before .before .before .before .before .before .zero-all .kept) in
+    let b = (c .before .before .before .before .before .before .before .before .before .before .before .before .before .before .before .before .before .before .before .before .before .before .before .before .before .before .before .before .before .fill-tables .kept) in
     record {
-      is = (rw (c .before .before .before .before .before .before .before .before .before .before .before .before .before .before .before .before .before .refusal
-          .given .1) at
-          (c .before .before .before .before .before .before .before .before .before .before .before .before .before .before .before .before .before .before .before
-          .before .before .before .before .before .before .before .before .before .before .fill-tables .ensures));
-      tables = (c .before .before .before .before .before .before .before .before .before .before .zero-all2 .ensures)
-          ∙ cleared-sized _ (record { names = omega arith; categories = omega arith; definitions = omega arith; ranges = omega arith; references = omega arith });
+      is = (rw ((c .before .before .before .before .before .before .before .before .before .before .before .before .before .before .before .before .before .refusal .given .1)) at (c .before .before .before .before .before .before .before .before .before .before .before .before .before .before .before .before .before .before .before .before .before .before .before .before .before .before .before .before .before .fill-tables .ensures));
+      tables = (c .before .before .before .before .before .before .before .before .before .before .zero-all2 .ensures) ∙ cleared-sized _ (record {
+        names = b .1 .0 ∙ a .0 ∙ s .names;
+        categories = b .1 .1 .0 ∙ a .1 .0 ∙ s .categories;
+        definitions = b .1 .1 .1 .0 ∙ a .1 .1 .0 ∙ s .definitions;
+        ranges = b .1 .1 .1 .1 .0 ∙ a .1 .1 .1 .0 ∙ s .ranges;
+        references = b .1 .1 .1 .1 .1 .0 ∙ a .1 .1 .1 .1 .0 ∙ s .references;
+      });
     }
 
 pub read-into-spec : {M : Type 1} → statement M

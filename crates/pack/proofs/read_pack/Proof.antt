@@ -4,131 +4,83 @@ use denote.Ref.{now}
 use Rattle.paper.specs.Sizes.{maxNameBytes, maxCategories, maxCategoryLines, maxRanges, maxReferences}
 use Rattle.paper.specs.Computed.ReadPack.{readPack}
 use Rattle.paper.specs.Tables.Layout.{Tables, nameSlotSize, definitionSize, rangeSlotSize, referenceSize}
-use Rattle.room.proofs.Sizes.{lacking, having, roomy, part-long, parts-sized}
+use Rattle.room.proofs.Sizes.{RoomIn, lacking, having, roomy, part-long, parts-sized}
 use Rattle.room.proofs.Whole.{short-room, reads}
-use Rattle.pack.proofs.Body.{refusals-clear}
-use borrow.Author.Needs.{needs}
+use Rattle.pack.proofs.Answer.{refusals-clear}
+use Rattle.pack.proofs.Kept.{part-kept}
 use Rattle.pack.proofs.read_pack.Statement.{statement}
 use Rattle.pack.proofs.read_pack.Tie as tie
 
+-- the tables that are lent, and that they are large enough behind the test: stated once, at the place where it is known
+abbrev lent : tie.Start → Tables
+lent c =
+    record
+    { names = now (c .args .names); categories = now (c .args .categories); definitions = now (c .args .definitions); ranges = now (c .args .ranges); references = now (c .args .references) }
+
+roomed : (c : tie.Else1) → RoomIn (lent (c .before .before .before .before .before .before .before .before))
+roomed c = roomy (lent (c .before .before .before .before .before .before .before .before)) (c .before .has-room .ensures) (c .if1 .left)
+
 has-room-requires : tie.Need-has-room-requires
-has-room-requires c κs = search needs
+has-room-requires c κs = tt
 
 returns : tie.Need-returns
-returns c =
-    let a = (c .before .before .before .before .before .before .before .before .args) in
-    let t : Tables = record
-    { names = now (a .names); categories = now (a .categories); definitions = now (a .definitions); ranges = now (a .ranges); references = now (a .references) } in
-    short-room (readPack (now (a .pack))) t (lacking t (c .before .has-room .ensures) (c .if1 .taken))
+returns c = short-room (readPack (now (c .before .before .before .before .before .before .before .before .args .pack))) (lent (c .before .before .before .before .before .before .before .before)) (lacking (lent (c .before .before .before .before .before .before .before .before)) (c .before .has-room .ensures) (c .if1 .taken))
 
 slice-relend-prefix-read-into : tie.Need-slice-relend-prefix-read-into
-slice-relend-prefix-read-into c =
-    let a = (c .before .before .before .before .before .before .before .before .args) in
-    let t : Tables = record
-    { names = now (a .names); categories = now (a .categories); definitions = now (a .definitions); ranges = now (a .ranges); references = now (a .references) } in
-    roomy t (c .before .has-room .ensures) (c .if1 .left) .for-names
+slice-relend-prefix-read-into c = roomed c .for-names
 
 slice-aggregate-read-into : tie.Need-slice-aggregate-read-into
-slice-aggregate-read-into c =
-    let a = (c .before .before .before .before .before .before .before .before .before .args) in
-    let t : Tables = record
-    { names = now (a .names); categories = now (a .categories); definitions = now (a .definitions); ranges = now (a .ranges); references = now (a .references) } in
-    part-long maxNameBytes (t .names) (roomy t (c .before .before .has-room .ensures) (c .before .if1 .left) .for-names)
+slice-aggregate-read-into c = part-long maxNameBytes (now (c .before .before .before .before .before .before .before .before .before .args .names)) (roomed (c .before) .for-names)
 
 slice-relend-prefix-read-into-2 : tie.Need-slice-relend-prefix-read-into-2
-slice-relend-prefix-read-into-2 c =
-    let a = (c .before .before .before .before .before .before .before .before .before .args) in
-    let t : Tables = record
-    { names = now (a .names); categories = now (a .categories); definitions = now (a .definitions); ranges = now (a .ranges); references = now (a .references) } in
-    roomy t (c .before .before .has-room .ensures) (c .before .if1 .left) .for-categories
+slice-relend-prefix-read-into-2 c = roomed (c .before) .for-categories
 
 slice-aggregate-read-into-2 : tie.Need-slice-aggregate-read-into-2
-slice-aggregate-read-into-2 c =
-    let a = (c .before .before .before .before .before .before .before .before .before .before .args) in
-    let t : Tables = record
-    { names = now (a .names); categories = now (a .categories); definitions = now (a .definitions); ranges = now (a .ranges); references = now (a .references) } in
-    part-long (nameSlotSize * maxCategories) (t .categories) (roomy t (c .before .before .before .has-room .ensures) (c .before .before .if1 .left) .for-categories)
+slice-aggregate-read-into-2 c = part-long (nameSlotSize * maxCategories) (now (c .before .before .before .before .before .before .before .before .before .before .args .categories)) (roomed (c .before .before) .for-categories)
 
 slice-relend-prefix-read-into-3 : tie.Need-slice-relend-prefix-read-into-3
-slice-relend-prefix-read-into-3 c =
-    let a = (c .before .before .before .before .before .before .before .before .before .before .args) in
-    let t : Tables = record
-    { names = now (a .names); categories = now (a .categories); definitions = now (a .definitions); ranges = now (a .ranges); references = now (a .references) } in
-    roomy t (c .before .before .before .has-room .ensures) (c .before .before .if1 .left) .for-definitions
+slice-relend-prefix-read-into-3 c = roomed (c .before .before) .for-definitions
 
 slice-aggregate-read-into-3 : tie.Need-slice-aggregate-read-into-3
-slice-aggregate-read-into-3 c =
-    let a = (c .before .before .before .before .before .before .before .before .before .before .before .args) in
-    let t : Tables = record
-    { names = now (a .names); categories = now (a .categories); definitions = now (a .definitions); ranges = now (a .ranges); references = now (a .references) } in
-    part-long (definitionSize * maxCategoryLines) (t .definitions)
-    (roomy t (c .before .before .before .before .has-room .ensures) (c .before .before .before .if1 .left) .for-definitions)
+slice-aggregate-read-into-3 c = part-long (definitionSize * maxCategoryLines) (now (c .before .before .before .before .before .before .before .before .before .before .before .args .definitions)) (roomed (c .before .before .before) .for-definitions)
 
 slice-relend-prefix-read-into-4 : tie.Need-slice-relend-prefix-read-into-4
-slice-relend-prefix-read-into-4 c =
-    let a = (c .before .before .before .before .before .before .before .before .before .before .before .args) in
-    let t : Tables = record
-    { names = now (a .names); categories = now (a .categories); definitions = now (a .definitions); ranges = now (a .ranges); references = now (a .references) } in
-    roomy t (c .before .before .before .before .has-room .ensures) (c .before .before .before .if1 .left) .for-ranges
+slice-relend-prefix-read-into-4 c = roomed (c .before .before .before) .for-ranges
 
 slice-aggregate-read-into-4 : tie.Need-slice-aggregate-read-into-4
-slice-aggregate-read-into-4 c =
-    let a = (c .before .before .before .before .before .before .before .before .before .before .before .before .args) in
-    let t : Tables = record
-    { names = now (a .names); categories = now (a .categories); definitions = now (a .definitions); ranges = now (a .ranges); references = now (a .references) } in
-    part-long (rangeSlotSize * maxRanges) (t .ranges)
-    (roomy t (c .before .before .before .before .before .has-room .ensures) (c .before .before .before .before .if1 .left) .for-ranges)
+slice-aggregate-read-into-4 c = part-long (rangeSlotSize * maxRanges) (now (c .before .before .before .before .before .before .before .before .before .before .before .before .args .ranges)) (roomed (c .before .before .before .before) .for-ranges)
 
 slice-relend-prefix-read-into-5 : tie.Need-slice-relend-prefix-read-into-5
-slice-relend-prefix-read-into-5 c =
-    let a = (c .before .before .before .before .before .before .before .before .before .before .before .before .args) in
-    let t : Tables = record
-    { names = now (a .names); categories = now (a .categories); definitions = now (a .definitions); ranges = now (a .ranges); references = now (a .references) } in
-    roomy t (c .before .before .before .before .before .has-room .ensures) (c .before .before .before .before .if1 .left) .for-references
+slice-relend-prefix-read-into-5 c = roomed (c .before .before .before .before) .for-references
 
 slice-aggregate-read-into-5 : tie.Need-slice-aggregate-read-into-5
-slice-aggregate-read-into-5 c =
-    let a = (c .before .before .before .before .before .before .before .before .before .before .before .before .before .args) in
-    let t : Tables = record
-    { names = now (a .names); categories = now (a .categories); definitions = now (a .definitions); ranges = now (a .ranges); references = now (a .references) } in
-    part-long (referenceSize * maxReferences) (t .references)
-    (roomy t (c .before .before .before .before .before .before .has-room .ensures) (c .before .before .before .before .before .if1 .left) .for-references)
+slice-aggregate-read-into-5 c = part-long (referenceSize * maxReferences) (now (c .before .before .before .before .before .before .before .before .before .before .before .before .before .args .references)) (roomed (c .before .before .before .before .before) .for-references)
 
 read-into-requires : tie.Need-read-into-requires
-read-into-requires c κs =
-    let a = (c .before .before .before .before .before .before .before .before .before .before .before .before .before .args) in
-    let t : Tables = record
-    { names = now (a .names); categories = now (a .categories); definitions = now (a .definitions); ranges = now (a .ranges); references = now (a .references) } in
-    parts-sized t (roomy t (c .before .before .before .before .before .before .has-room .ensures) (c .before .before .before .before .before .if1 .left))
+read-into-requires c κs = parts-sized (lent (c .before .before .before .before .before .before .before .before .before .before .before .before .before)) (roomed (c .before .before .before .before .before))
 
 same-length : tie.Need-same-length
-same-length c = search needs
+same-length c = part-kept maxNameBytes (now (c .before .before .before .before .before .before .before .before .before .before .before .before .before .before .before .before .before .before .before .before .before .before .before .before .args .names)) (c .before .before .before .before .before .before .before .before .before .before .read-into .last .1 .0) (c .before .before .before .before .before .before .before .before .before .before .read-into .kept .1 .0)
 
 same-length-2 : tie.Need-same-length-2
-same-length-2 c = search needs
+same-length-2 c = part-kept (nameSlotSize * maxCategories) (now (c .before .before .before .before .before .before .before .before .before .before .before .before .before .before .before .before .before .before .before .before .before .before .before .before .args .categories)) (c .before .before .before .before .before .before .before .before .before .before .read-into .last .1 .1 .0) (c .before .before .before .before .before .before .before .before .before .before .read-into .kept .1 .1 .0)
 
 same-length-3 : tie.Need-same-length-3
-same-length-3 c = search needs
+same-length-3 c = part-kept (definitionSize * maxCategoryLines) (now (c .before .before .before .before .before .before .before .before .before .before .before .before .before .before .before .before .before .before .before .before .before .before .before .before .args .definitions)) (c .before .before .before .before .before .before .before .before .before .before .read-into .last .1 .1 .1 .0) (c .before .before .before .before .before .before .before .before .before .before .read-into .kept .1 .1 .1 .0)
 
 same-length-4 : tie.Need-same-length-4
-same-length-4 c = search needs
+same-length-4 c = part-kept (rangeSlotSize * maxRanges) (now (c .before .before .before .before .before .before .before .before .before .before .before .before .before .before .before .before .before .before .before .before .before .before .before .before .args .ranges)) (c .before .before .before .before .before .before .before .before .before .before .read-into .last .1 .1 .1 .1 .0) (c .before .before .before .before .before .before .before .before .before .before .read-into .kept .1 .1 .1 .1 .0)
 
 same-length-5 : tie.Need-same-length-5
-same-length-5 c = search needs
+same-length-5 c = part-kept (referenceSize * maxReferences) (now (c .before .before .before .before .before .before .before .before .before .before .before .before .before .before .before .before .before .before .before .before .before .before .before .before .args .references)) (c .before .before .before .before .before .before .before .before .before .before .read-into .last .1 .1 .1 .1 .1 .0) (c .before .before .before .before .before .before .before .before .before .before .read-into .kept .1 .1 .1 .1 .1 .0)
 
 returns-2 : tie.Need-returns-2
 returns-2 c =
-    let a = (c .before .before .before .before .before .before .before .before .before .before .before .before .before .before .before .before .before .before
-    .before .before .before .before .before .before .args) in
-    let t : Tables = record
-    { names = now (a .names); categories = now (a .categories); definitions = now (a .definitions); ranges = now (a .ranges); references = now (a .references) } in
     let l = (c .before .before .before .before .before .before .before .before .before .before .read-into .last) in
-    reads (readPack (now (a .pack))) t
-    (having t (c .before .before .before .before .before .before .before .before .before .before .before .before .before .before .before .before .before .has-room
-    .ensures) (c .before .before .before .before .before .before .before .before .before .before .before .before .before .before .before .before .if1 .left))
-    (refusals-clear (now (a .pack)))
+    reads (readPack (now (c .before .before .before .before .before .before .before .before .before .before .before .before .before .before .before .before .before .before .before .before .before .before .before .before .args .pack))) (lent (c .before .before .before .before .before .before .before .before .before .before .before .before .before .before .before .before .before .before .before .before .before .before .before .before)) (having (lent (c .before .before .before .before .before .before .before .before .before .before .before .before .before .before .before .before .before .before .before .before .before .before .before .before)) (c .before .before .before .before .before .before .before .before .before .before .before .before .before .before .before .before .before .has-room .ensures) (c .before .before .before .before .before .before .before .before .before .before .before .before .before .before .before .before .if1 .left))
+    (refusals-clear (now (c .before .before .before .before .before .before .before .before .before .before .before .before .before .before .before .before .before .before .before .before .before .before .before .before .args .pack)))
     (record { names = l .1 .0; categories = l .1 .1 .0; definitions = l .1 .1 .1 .0; ranges = l .1 .1 .1 .1 .0; references = l .1 .1 .1 .1 .1 .0 })
-    _ (c .before .before .before .before .before .before .before .before .before .before .read-into .ensures)
+    (c .before .before .before .before .before .before .before .before .before .before .read-into .result) (c .before .before .before .before .before .before .before .before .before .before .read-into .ensures)
 
 pub read-pack-spec : {M : Type 1} → statement M
 read-pack-spec =

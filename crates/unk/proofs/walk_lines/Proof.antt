@@ -3,9 +3,9 @@ use Prim.Native.Nat.{_+_, _-_}
 use native.Mathlib.Omega.{arith}
 use lib.ListN.{length}
 use denote.Ref.{now}
-use Rattle.unk.specs.Lines.{markIn}
+use Rattle.unk_enter.specs.Lines.{markIn}
 use Rattle.unk.proofs.Walking.{Walking, walk-start, working, line-inside, stop-inside, walk-asked, walk-stops, walk-on, walk-ends}
-use Rattle.unk.proofs.Entered.{entries-long, offsets-long, details-long}
+use Rattle.unk_enter.proofs.Entered.{entries-long, offsets-long, details-long}
 use borrow.Author.Needs.{needs}
 use Rattle.unk.proofs.walk_lines.Statement.{statement}
 use Rattle.unk.proofs.walk_lines.Tie as tie

@@ -1,0 +1,3 @@
+-- What the reader of a pack's body promises.
+pub mod Definitions
+pub mod Body

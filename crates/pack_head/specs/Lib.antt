@@ -1,0 +1,2 @@
+-- What the reader of a pack's head promises.
+pub mod Head
