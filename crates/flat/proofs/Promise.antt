@@ -11,7 +11,7 @@ use lib.Dec.{T, ltb}
 use lib.ListN.{length, getD, take, drop}
 use lib.Seq.{ext-getD, length-take-le}
 use mir.Facts.{yes-and, yes-ltb}
-use borrow.Author.Tests.{lt-ltb, le-ltb}
+use borrow.Author.Tests.{le-ltb}
 use Rattle.paper.specs.Sizes.{bmpSize, maxFlatRow}
 use Rattle.paper.specs.Refusals.{flatRowLong, tableRoomShort, tablesApart}
 use Rattle.paper.specs.Lists.{all, any, joined}
@@ -41,6 +41,8 @@ use Rattle.fallback.proofs.Default.{fallback-met}
 use Rattle.row.proofs.Meets.{readable, boundaries-met, rows-met}
 use Rattle.row.proofs.Promise.{set-ahead, starts-ahead, or-no, longest-any}
 use Rattle.fill_flat.specs.Walked.{FlatRoom, Buildable, FlatFilled}
+use Rattle.flat_room.specs.Room.{refusal}
+use Rattle.flat_room.proofs.Room.{Fits, fits}
 use Rattle.flat.specs.Built.{answerTo, given, filled, leaves, BuildsFlat}
 use Rattle.flat.specs.Made.{Builds, BuildsOf}
 use Rattle.flat.specs.declared.Built.{Built}
@@ -93,44 +95,50 @@ module _ (bs : List ℕ) (ws : List (List ℕ)) (lent : FlatRoom) (n : Need) (is
     refused-by : (k : ℕ) → answerTo (some r) lent ≡ refusedBy k → Builds r lent lent (Refused (record { number = k; place = 0 }))
     refused-by k e = record { answer = ap (given r) (sym e); memory = ap (λ a. leaves r a lent) (sym e) }
 
-  pub flat-overlong : maxFlatRow < n .longest → BuildsOf bs ws lent lent (Refused (record { number = flatRowLong; place = 0 }))
-  flat-overlong h r eb ew = refused-by r eb ew flatRowLong (answer-is r eb ew true _ (overlong-is r eb ew ∙ lt-ltb maxFlatRow (n .longest) h) refl)
-
-  module _ (h : n .longest ≤ maxFlatRow) where
-    short : (r : Reading) (eb : bs ≡ boundaries r) (ew : ws ≡ rows r) → rowOverlong r ≡ false
-    short r eb ew = overlong-is r eb ew ∙ le-ltb maxFlatRow (n .longest) h
-
-    pub index-short : length (lent .index) < bmpSize → BuildsOf bs ws lent lent (Refused (record { number = tableRoomShort; place = 0 }))
+    room-is : flatRoomShort r (length (lent .index)) (length (lent .pool)) ≡ (ltb (length (lent .index)) bmpSize || ltb (length (lent .pool)) (n .places))
     unfolding flatRoomShort
-    index-short k r eb ew =
-        refused-by r eb ew tableRoomShort
-        (answer-is r eb ew false true (short r eb ew) (ap (λ b. b || ltb (length (lent .pool)) (placesNeeded r)) (lt-ltb (length (lent .index)) bmpSize k)))
+    room-is = ap (λ k. ltb (length (lent .index)) bmpSize || ltb (length (lent .pool)) k) (sym places-are)
 
-    module _ (k : bmpSize ≤ length (lent .index)) where
-      room-is : (r : Reading) (eb : bs ≡ boundaries r) (ew : ws ≡ rows r) (b : Bool) → ltb (length (lent .pool)) (n .places) ≡ b
-          → flatRoomShort r (length (lent .index)) (length (lent .pool)) ≡ b
-      unfolding flatRoomShort
-      room-is r eb ew b e =
-          ap₂ (λ x y. x || y) (le-ltb (length (lent .index)) bmpSize k) (ap (ltb (length (lent .pool))) (sym (places-are r eb ew)) ∙ e)
+  module _ (number : ℕ) (e : number ≡ refusal (n .longest) (n .places) (length (lent .index)) (length (lent .pool))) where
+    pub flat-refused : 0 < number → BuildsOf bs ws lent lent (Refused (record { number = number; place = 0 }))
+    unfolding refusal
+    flat-refused h r eb ew =
+        refused-by r eb ew number
+        (answer-is r eb ew _ _ (overlong-is r eb ew) (room-is r eb ew)
+        ∙ go (ltb maxFlatRow (n .longest)) (ltb (length (lent .index)) bmpSize || ltb (length (lent .pool)) (n .places)) e)
+      where
+        never : number ≡ 0 → ⊥
+        never z = omega arith
 
-      pub pool-short : length (lent .pool) < n .places → BuildsOf bs ws lent lent (Refused (record { number = tableRoomShort; place = 0 }))
-      pool-short l r eb ew =
-          refused-by r eb ew tableRoomShort
-          (answer-is r eb ew false true (short r eb ew) (room-is r eb ew true (lt-ltb (length (lent .pool)) (n .places) l)))
+        go : (o s : Bool) → number ≡ cond o flatRowLong (cond s tableRoomShort 0)
+            → cond o (refusedBy flatRowLong) (cond s (refusedBy tableRoomShort) built) ≡ refusedBy number
+        go true s f = ap refusedBy (sym f)
+        go false true f = ap refusedBy (sym f)
+        go false false f = absurd (never f)
 
-      pub flat-made : n .places ≤ length (lent .pool) → (m : ℕ) → m ≡ bmpSize → (index pool : List ℕ)
+    module _ (z : number ≤ 0) where
+      room : Fits (n .longest) (n .places) (length (lent .index)) (length (lent .pool))
+      room = fits _ _ _ _ number e (omega arith)
+
+      pub whole-index : bmpSize ≤ length (lent .index)
+      whole-index = room .whole
+
+      pub flat-made : (m : ℕ) → m ≡ bmpSize → (index pool : List ℕ)
           → FlatFilled bs ws (record { index = take m (lent .index); pool = lent .pool }) (record { index = index; pool = pool })
           → BuildsOf bs ws lent (record { index = index ++ drop m (lent .index); pool = pool }) (Flat (n .places))
-      flat-made l m whole index pool f r eb ew =
+      flat-made m whole index pool f r eb ew =
           let e : answerTo (some r) lent ≡ built =
-          answer-is r eb ew false false (short r eb ew) (room-is r eb ew false (le-ltb (length (lent .pool)) (n .places) l)) in
+          answer-is r eb ew false false (overlong-is r eb ew ∙ le-ltb maxFlatRow (n .longest) (room .short))
+          (room-is r eb ew
+          ∙ ap₂ (λ x y. x || y) (le-ltb (length (lent .index)) bmpSize (room .whole)) (le-ltb (length (lent .pool)) (n .places) (room .enough))) in
           let g : FlatFilled (boundaries r) (rows r) (record { index = take m (lent .index); pool = lent .pool }) (record { index = index; pool = pool }) =
           subst (λ w. FlatFilled (boundaries r) w (record { index = take m (lent .index); pool = lent .pool }) (record { index = index; pool = pool })) ew
           (subst (λ b. FlatFilled b ws (record { index = take m (lent .index); pool = lent .pool }) (record { index = index; pool = pool })) eb f) in
           record {
             answer = ap Flat (places-are r eb ew) ∙ ap (given r) (sym e);
             memory =
-                filled-so r lent m whole (omega arith) index pool g (omega (arith, places-are r eb ew)) ∙ ap (λ a. leaves r a lent) (sym e);
+                filled-so r lent m whole (omega (arith, room .whole)) index pool g (omega (arith, room .enough, places-are r eb ew))
+                ∙ ap (λ a. leaves r a lent) (sym e);
           }
 
 -- ---- over tables handed in

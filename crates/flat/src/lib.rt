@@ -2,9 +2,7 @@
 // longest row, a second one fills.
 use cover::Fallback;
 use paper::Counts;
-use paper::FLAT_ROW_LONG;
 use paper::Refusal;
-use paper::TABLE_ROOM_SHORT;
 use paper::TABLES_APART;
 ghost use Rattle.cover.specs.Slots.{slotsGot};
 ghost use Rattle.cover.specs.Fallback.{fallbackRow};
@@ -14,9 +12,6 @@ ghost use Rattle.flat.specs.Built.{BuildsFlat};
 ghost use Rattle.flat.specs.Made.{BuildsOf};
 
 const BMP_SIZE: usize = 65536;
-
-// A flat entry is offset * 256 + length, so a row has at most so many categories.
-const MAX_FLAT_ROW: usize = 255;
 
 // How many pool places were filled.
 pub enum Built {
@@ -37,25 +32,10 @@ fn build_flat(
     ensures { λ r. ⌜ BuildsOf (boundariesOf (slotsGot 0 count (now (ranges .entry)))) (rowsOf (fallbackRow fallback) (slotsGot 0 count (now (ranges .entry))) (now (references .entry))) (record { index = now (index .entry); pool = now (pool .entry) }) (record { index = now (index .exit); pool = now (pool .exit) }) r ⌝ }
 {
     let need = fill_rows::rows_need(ranges, references, count, fallback);
-    let longest = need.longest;
     let places = need.places;
-    if MAX_FLAT_ROW < longest {
-        return Built::Refused(Refusal {
-            number: FLAT_ROW_LONG,
-            place: 0,
-        });
-    }
-    if index.len() < BMP_SIZE {
-        return Built::Refused(Refusal {
-            number: TABLE_ROOM_SHORT,
-            place: 0,
-        });
-    }
-    if pool.len() < places {
-        return Built::Refused(Refusal {
-            number: TABLE_ROOM_SHORT,
-            place: 0,
-        });
+    let number = flat_room::refusal_of(need.longest, places, index.len(), pool.len());
+    if 0 < number {
+        return Built::Refused(Refusal { number, place: 0 });
     }
     fill_flat::fill_fresh(
         ranges,

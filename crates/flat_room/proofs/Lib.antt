@@ -1,0 +1,2 @@
+-- The laws of the refusal, here and for the builder.
+pub mod Room

@@ -1,0 +1,2 @@
+-- What `refusal_of` promises.
+pub mod Room
