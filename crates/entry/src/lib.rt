@@ -1,4 +1,4 @@
-// Enters one line of char.def into five lent tables: "Lines", 9 to 13. The reader in `char_def` walks the lines of a text over it.
+// Enters one line of char.def into five lent tables: "Lines", 9 to 13. `lines` walks the lines of a text over it.
 use category_line::CategoryLine;
 use category_line::Line;
 use category_line::LineAnswer;
