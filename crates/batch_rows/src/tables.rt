@@ -8,8 +8,7 @@ use crate::writer::add_runs;
 use crate::writer::add_u8;
 use crate::writer::add_u16s;
 use crate::writer::add_u32s;
-
-const BMP_SIZE: usize = 65536;
+use paper::BMP_SIZE;
 
 // For each builder the number of its refusal or 0, and how many places of its rooms are used.
 pub struct Tables {

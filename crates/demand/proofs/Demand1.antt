@@ -4,12 +4,12 @@
 use Prim.Native.Nat.{ℕ}
 use mathlib.Core.Path.{_≡_, refl, sym, _∙_}
 use mathlib.Core.Bool.{Bool, true, false, cond}
-use mathlib.Core.List.{List, [], _∷_}
+use mathlib.Core.List.{List}
 use mathlib.Core.Option.{Option, none, some}
 use lib.Dec.{T, eqb}
 use lib.ListN.{length}
 use Rattle.paper.specs.Lists.{any}
-use Rattle.paper.specs.Refusals.{flatRowLong, tableRoomShort, packRoomShort, tablesApart}
+use Rattle.paper.specs.Refusals.{flatRowLong, tableRoomShort, packRoomShort}
 use Rattle.paper.specs.Rows.Build.{built, refusedBy, rowRoomShort, rowOverlong, flatRoomShort, writeRoomShort, rowsBuilt, flatBuilt, packWritten}
 use Rattle.paper.specs.Rows.Build as answer
 use Rattle.paper.specs.CharDef.Reading.{Reading, Answer, accepted}

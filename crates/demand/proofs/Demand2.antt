@@ -1,8 +1,7 @@
 -- Demand 2's lookups: what the builders leave of a reading's tables is what the lookups' promises ask.
 -- Assumes nothing.
-use Prim.Native.Nat.{ℕ}
 use mathlib.Core.Path.{_≡_, refl}
-use mathlib.Core.List.{List, []}
+use mathlib.Core.List.{[]}
 use mathlib.Core.Option.{some}
 use Rattle.paper.specs.CharDef.Reading.{Reading}
 use Rattle.paper.specs.Rows.Lookup as found

@@ -1,17 +1,16 @@
 -- Demand 3 is met: what the promise of a reader says (`room`), with what the paper's answer to a text means (`CharDef`).
 -- Assumes nothing.
 use Prim.Native.Nat.{ℕ, _≤_}
-use mathlib.Core.Path.{_≡_, refl, sym, ap, _∙_, subst}
+use mathlib.Core.Path.{_≡_, refl}
 use mathlib.Core.Logic.{_↔_}
 use mathlib.Core.List.{List, _∷_, _++_}
 use mathlib.Core.Option.{some}
 use Rattle.paper.specs.Refusals.{rangeParts}
 use Rattle.paper.specs.Text.Scalar.{lf}
-use Rattle.paper.specs.CharDef.Reading.{Reading, Fits, accepted, refused}
+use Rattle.paper.specs.CharDef.Reading.{Reading, Fits}
 use Rattle.paper.specs.CharDef.Bad.{BadText, FirstBad, linesBefore, throughLine}
 use Rattle.paper.specs.Tables.Layout.{countsOf}
 use Rattle.paper.specs.Computed.HandedIn.{handedIn}
-use Rattle.paper.specs.Computed.ReadText.{readText}
 use Rattle.paper.specs.declared.Counts.{Counts}
 use Rattle.paper.specs.declared.Refusal.{Refusal}
 use Rattle.paper.specs.declared.Outcome.the-variants.{Accepted, Refused}

@@ -5,7 +5,6 @@ use mathlib.Core.Path.{_≡_, sym, ap, _∙_, subst}
 use mathlib.Core.List.{List}
 use mathlib.Core.Option.{some}
 use Rattle.paper.specs.CharDef.Reading.{Reading, Fits, accepted}
-use Rattle.paper.specs.Pack.Fields.{packBytes}
 use Rattle.paper.specs.Tables.Layout.{Tables, countsOf}
 use Rattle.paper.specs.Computed.HandedIn.{handedIn}
 use Rattle.paper.specs.Computed.ReadPack.{readPack}

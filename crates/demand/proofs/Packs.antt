@@ -1,15 +1,14 @@
 -- Demand 2's packs: the reader's promise and the writer's meet in the reading that stands in the tables.
 -- Assumes nothing.
-use Prim.Native.Nat.{ℕ, _*_, _≤_}
-use mathlib.Core.Path.{_≡_, refl, sym, ap, ap₂, _∙_, subst}
+use Prim.Native.Nat.{ℕ}
+use mathlib.Core.Path.{_≡_, refl, sym, ap, _∙_, subst}
 use mathlib.Core.Logic.{_↔_}
 use mathlib.Core.List.{List}
 use mathlib.Core.Option.{some}
 use lib.Dec.{T}
-use lib.ListN.{length, take}
 use Rattle.paper.specs.Lists.{all}
 use Rattle.paper.specs.Numbers.Bytes.{isByte}
-use Rattle.paper.specs.CharDef.Reading.{Reading, accepted, refused}
+use Rattle.paper.specs.CharDef.Reading.{Reading, accepted}
 use Rattle.paper.specs.Pack.Fields.{packBytes}
 use Rattle.paper.specs.Pack.Rules.{PackRules}
 use Rattle.paper.specs.Pack.Broken.{Broken}

@@ -7,17 +7,13 @@ use mathlib.Core.Logic.{_↔_}
 use mathlib.Core.Bool.{true}
 use mathlib.Core.List.{List}
 use mathlib.Core.Option.{some}
-use lib.Dec.{T}
-use lib.ListN.{length, take}
+use lib.ListN.{take}
 use Rattle.paper.specs.Sizes.{maxPackBytes}
-use Rattle.paper.specs.Lists.{all}
-use Rattle.paper.specs.Numbers.Bytes.{isByte}
 use Rattle.paper.specs.CharDef.Reading.{Reading}
 use Rattle.paper.specs.Pack.Fields.{packBytes}
 use Rattle.paper.specs.Pack.Rules.{PackRules}
 use Rattle.paper.specs.Pack.Broken.{Broken}
 use Rattle.paper.specs.Tables.Layout.{Tables, countsOf, used}
-use Rattle.paper.specs.Tables.HandedIn.{OfBytes}
 use Rattle.paper.specs.Tables.Reader.{hasRoom, Reads}
 use Rattle.paper.specs.Computed.HandedIn.{handedIn}
 use Rattle.paper.specs.Computed.ReadPack.{readPack}

@@ -2,7 +2,7 @@
 -- Assumes nothing.
 use Prim.Native.Nat.{ℕ, _+_, _*_, _≤_, _<_}
 use native.Mathlib.Omega.{arith}
-use mathlib.Core.Path.{_≡_, refl, sym, ap, ap₂, _∙_}
+use mathlib.Core.Path.{_≡_, sym, ap, ap₂, _∙_}
 use mathlib.Core.Bool.{Bool}
 use mathlib.Core.List.{List, [], _∷_, _++_, map, append-nil}
 use lib.ListN.{length, length-append, length-map}
@@ -17,7 +17,7 @@ use Rattle.paper.specs.Numbers.Bytes.{le}
 use Rattle.paper.specs.Tables.Layout.{definitionBytes, slotBytes, definitionSize, rangeSlotSize, referenceSize}
 use Rattle.paper.specs.Tables.Lent.{patch}
 use Rattle.paper.proofs.Tables.Trip.{wide-definition}
-use Rattle.paper.proofs.Tables.Append.{patch-patch, entry-more, ranges-more, references-more, references-snoc}
+use Rattle.paper.proofs.Tables.Append.{entry-more, ranges-more, references-more, references-snoc}
 use Rattle.paper.specs.declared.Counts.{Counts}
 use Rattle.name.specs.declared.Numbered.{Numbered}
 use Rattle.name.specs.Names.{Numbers}
@@ -144,14 +144,3 @@ module _ {r : Reading} {m : Memory} {c : Counts} (z : Held r m c) (lower upper :
               ∙ references-more (r .ranges) (newRange (u .now-names) lower upper ws) (referenceSize * maxReferences) (omega arith);
         };
       }
-
--- ---- an entry of the range table
-
-pub four-puts : (at a b c d : ℕ) (l l1 l2 l3 l4 : List ℕ) → at + 8 ≤ length l
-    → l1 ≡ patch at (le 2 a) l → l2 ≡ patch (at + 2) (le 2 b) l1 → l3 ≡ patch (at + 4) (le 2 c) l2 → l4 ≡ patch (at + 6) (le 2 d) l3
-    → l4 ≡ patch at (slotBytes (record { lower = a; upper = b; first = c; count = d })) l
-four-puts at a b c d l l1 l2 l3 l4 h p q r s =
-    s ∙ ap (patch (at + 6) (le 2 d)) (r ∙ ap (patch (at + 4) (le 2 c)) (q ∙ ap (patch (at + 2) (le 2 b)) p
-    ∙ patch-patch at (at + 2) (le 2 a) (le 2 b) l refl (omega arith))
-    ∙ patch-patch at (at + 4) (le 2 a ++ le 2 b) (le 2 c) l refl (omega arith))
-    ∙ patch-patch at (at + 6) (le 2 a ++ le 2 b ++ le 2 c) (le 2 d) l refl (omega arith)

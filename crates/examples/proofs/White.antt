@@ -1,6 +1,5 @@
 -- White_Space and the separators of a category line, of every number up to 3001 hex.
 -- Assumes nothing.
-use Prim.Native.Nat.{ℕ}
 use mathlib.Core.Path.{_≡_, refl}
 use mathlib.Core.List.{[], _∷_}
 use Rattle.paper.specs.Lists.{select}

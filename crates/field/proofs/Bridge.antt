@@ -6,17 +6,17 @@ use native.Mathlib.Nat.{add-zero}
 use native.Mathlib.Numerals.{add-one}
 use native.Mathlib.Omega.{arith}
 use mathlib.Core.Path.{_≡_, refl, sym, ap, ap₂, _∙_}
-use mathlib.Core.Bool.{Bool, true, false, not, cond, _&&_}
-use mathlib.Core.List.{List, [], _∷_, _++_, map}
+use mathlib.Core.Bool.{Bool, true, false, not, cond}
+use mathlib.Core.List.{List, [], _∷_}
 use lib.Dec.{leb, lit<}
 use lib.Pow.{pow-add}
 use lib.ListN.{length, drop, getD, length-drop}
 use lib.Seq.{drop-cons}
 use borrow.Author.Tests.{le-leb, lt-leb, leb-true, leb-false}
 use Rattle.paper.specs.Refusals.{packEnds}
-use Rattle.paper.specs.Pack.Fields.{byteWidth, bits, bitsOf}
+use Rattle.paper.specs.Pack.Fields.{byteWidth, bitsOf}
 use Rattle.paper.specs.Computed.ReadPack.{Taken, short, taken, takeNumber, consTaken, afterByte, takeBytes}
-use Rattle.paper.specs.Computed.ReadPack.{FieldStep, gave, broke, settle, fieldOr, number, free, bytesField}
+use Rattle.paper.specs.Computed.ReadPack.{gave, broke, settle, fieldOr, number, free, bytesField}
 use Rattle.paper.specs.Tables.Lent.{patch}
 use Rattle.paper.proofs.Apart.{zero-one, short-taken}
 use Rattle.paper.proofs.Tables.Laws.{patch-out}

@@ -2,17 +2,15 @@
 -- at the place, and otherwise 19 at the place. Nothing is left open.
 -- Assumes nothing.
 use Prim.Native.Nat.{ℕ, _+_, _*_, _^_, _≤_, _<_}
-use native.Mathlib.Omega.{arith}
 use mathlib.Core.Path.{_≡_, refl, sym, ap, ap₂, _∙_}
 use mathlib.Core.Logic.{_↔_}
 use mathlib.Core.Bool.{Bool, true, false, cond, _&&_}
 use mathlib.Core.List.{List, _++_}
-use lib.Dec.{T, leb}
+use lib.Dec.{leb}
 use lib.ListN.{length, drop}
 use borrow.Author.Tests.{le-leb, leb-true}
 use Rattle.paper.specs.Refusals.{packEnds}
 use Rattle.paper.specs.Pack.Fields.{byteWidth, bits, bitsOf}
-use Rattle.paper.specs.Lists.{all}
 use Rattle.paper.specs.Computed.ReadPack.{FieldStep, gave, broke, Taken, short, takeNumber, taken, settle, fieldOr, number, free, takeBytes, bytesField}
 use Rattle.paper.specs.Tables.Lent.{patch}
 use Rattle.paper.proofs.Apart.{broke-gave}

@@ -12,7 +12,7 @@ use native.Mathlib.Omega.{arith}
 use native.Mathlib.Nat.{one-mul, mod-lt, lt-of-lt-of-le, mod-one, mul-add-div-right, mul-add-mod-self-right, mul-assoc}
 use native.Mathlib.Numerals.{add-one}
 use lib.Pow.{shl-exact, pow-mono, pow-pos, pow-add, shr-shr, high, mod-pow-add}
-use lib.ListN.{length, getD}
+use lib.ListN.{getD}
 use Rattle.field.specs.Bits.{bitAt, bitsValue, bytesValue}
 
 lt-or-by : (j n : ℕ) (b : Bool) → ltb j n ≡ b → (j < n) ⊎ (n ≤ j)

@@ -10,7 +10,6 @@ use Rattle.paper.specs.Refusals.{packEnds}
 use Rattle.paper.specs.Pack.Fields.{byteWidth, bitsOf}
 use Rattle.paper.specs.Computed.ReadPack.{FieldStep, gave, broke, number, free, bytesField}
 use Rattle.paper.specs.Tables.Lent.{patch}
-use Rattle.field.specs.declared.BitCursor.{BitCursor}
 use Rattle.field.specs.declared.Field.{Field}
 use Rattle.field.specs.declared.Field.the-variants.{Value, Refused}
 use Rattle.field.specs.declared.Run.{Run}

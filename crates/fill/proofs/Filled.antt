@@ -11,8 +11,8 @@ use Rattle.paper.specs.Computed.ReadText.{nothingRead}
 use Rattle.paper.specs.Tables.Layout.{Tables, layout, inRoom, countsOf, nameSlots, rangeSlots, nameSlotSize, definitionSize, rangeSlotSize, referenceSize}
 use Rattle.paper.specs.Tables.Lent.{padded}
 use Rattle.paper.specs.declared.Counts.{Counts}
-use Rattle.paper.proofs.Tables.Append.{padded-length}
-use Rattle.paper.proofs.Tables.Trip.{tables-is}
+use Rattle.paper.proofs.Tables.Append.{padded-none, padded-length}
+use Rattle.paper.proofs.Tables.Trip.{tables-is, counts-is}
 use Rattle.slot.specs.Slots.{written}
 use Rattle.slot.proofs.Written.{written-room}
 use Rattle.entry.specs.Steps.{Memory, Held}
@@ -20,10 +20,6 @@ use Rattle.room.specs.Sized.{noTables, AcceptedInto}
 use Rattle.lines.specs.Lines.{WalkEnded}
 
 -- ---- before
-
-none-padded : (n : ℕ) → replicate n 0 ≡ padded n []
-unfolding padded
-none-padded n = let e : n ≡ n - 0 = omega arith in ap (λ (k : ℕ). replicate {A = ℕ} k 0) e
 
 -- zero memory of the sizes holds nothing
 held-nothing : (a b c d e : List ℕ) → a ≡ padded maxNameBytes [] → b ≡ replicate maxCategories 0 → c ≡ padded (definitionSize * maxCategoryLines) []
@@ -33,7 +29,7 @@ held-nothing : (a b c d e : List ℕ) → a ≡ padded maxNameBytes [] → b ≡
 unfolding nothingRead nameBytes references nameSlots rangeSlots
 held-nothing a b c d e p q r s t =
     record {
-      names = record { count-is = refl; bytes-is = refl; few = omega arith; short = omega arith; stored = p; slotted = q ∙ none-padded maxCategories };
+      names = record { count-is = refl; bytes-is = refl; few = omega arith; short = omega arith; stored = p; slotted = q ∙ padded-none maxCategories };
       definitions-few = omega arith;
       definitions-are = refl;
       in-definitions = r;
@@ -76,10 +72,6 @@ module _ {t : Tables} (e : t ≡ inRoom noTables) where
   categories-long = ap length categories-zero ∙ padded-length (nameSlotSize * maxCategories) [] (omega arith)
 
 -- ---- after
-
-counts-is : (n : Counts) (a b c d e : ℕ) → a ≡ n .categories → b ≡ n .definitions → c ≡ n .ranges → d ≡ n .references → e ≡ n .bytes
-    → _≡_ {A = Counts} (record { categories = a; definitions = b; ranges = c; references = d; bytes = e }) n
-counts-is n a b c d e p q r s u = rw (p, q, r, s, u)
 
 module _ {r : Reading} {m : Memory} {c : Counts} (z : Held r m c) where
   pub counts-are : c ≡ countsOf r

@@ -1,6 +1,7 @@
 // The flat table: for each code point of the BMP an entry that says where its categories stand in a pool. One walk finds the exact need and the
 // longest row, a second one fills.
 use cover::Fallback;
+use paper::BMP_SIZE;
 use paper::Counts;
 use paper::Refusal;
 use paper::TABLES_APART;
@@ -10,8 +11,6 @@ ghost use Rattle.fill_rows.specs.Walked.{boundariesOf, rowsOf};
 ghost use Rattle.fill_flat.specs.Walked.{Buildable};
 ghost use Rattle.flat.specs.Built.{BuildsFlat};
 ghost use Rattle.flat.specs.Made.{BuildsOf};
-
-const BMP_SIZE: usize = 65536;
 
 // How many pool places were filled.
 pub enum Built {

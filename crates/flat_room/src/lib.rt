@@ -1,11 +1,10 @@
 // What stands in the way of a flat table: a row that is too long, or a lent slice that is too short. By lengths alone, since a test beside the slices
 // is dear to prove.
+use paper::BMP_SIZE;
 use paper::FLAT_ROW_LONG;
 use paper::TABLE_ROOM_SHORT;
 ghost use mathlib.Core.Path.{_≡_};
 ghost use Rattle.flat_room.specs.Room.{refusal};
-
-const BMP_SIZE: usize = 65536;
 
 // A flat entry is offset * 256 + length, so a row has at most so many categories.
 const MAX_FLAT_ROW: usize = 255;

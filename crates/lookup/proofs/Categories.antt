@@ -5,7 +5,7 @@ use Prim.Native.Nat.{ℕ, _+_, _-_, _≤_, _<_}
 use native.Mathlib.Nat.{add-sub-cancel-left}
 use native.Mathlib.Omega.{arith}
 use mathlib.Core.Path.{_≡_, refl, sym, ap, _∙_, subst}
-use mathlib.Core.Bool.{Bool, true, false, not, cond, _&&_, _||_}
+use mathlib.Core.Bool.{Bool, true, false, not, cond, _||_}
 use mathlib.Core.List.{List, [], _∷_}
 use lib.Dec.{T, ltb}
 use lib.ListN.{length, getD, take, drop}
@@ -19,6 +19,7 @@ use Rattle.paper.specs.Rows.Lookup.{Looked, gives, refuses, LookupTables, Pool,
 use Rattle.paper.specs.Rows.Lookup.{indexOdd, fromZero, rowMissing, pastPool, apart, lookup}
 use Rattle.paper.specs.declared.Refusal.{Refusal}
 use Rattle.paper.proofs.Apart.{zero-one, refuses-gives}
+use Rattle.paper.proofs.Lists.Facts.{or-true, and-false}
 use Rattle.paper.proofs.Rows.Lookup.{looks-some}
 use Rattle.find_row.specs.Sought.{RowSought}
 use Rattle.find_row.proofs.Search.{sought-found}
@@ -91,10 +92,6 @@ module _ (bs starts lengths : List ℕ) (places c : ℕ) (b : Bool) (e : b ≡ f
 
 -- ---- the ways of a lookup
 
-or-true : (b : Bool) → (b || true) ≡ true
-or-true true = refl
-or-true false = refl
-
 module _ (t : LookupTables) (c : ℕ) where
   -- where no row counts, any that is found serves
   no-row : (a : Looked Part) (r : Located) → ((i : ℕ) → lookup t c i ≡ a) → r ≡ located a → Locates t c r
@@ -135,10 +132,6 @@ module _ (t : LookupTables) (c : ℕ) where
     way-empty h r b =
         let e : empty (t .index) ≡ true = no-entries (t .index) h in
         by-rows (rw e) (rw e (and-false (ltb c bmpSize))) r b
-      where
-        and-false : (b : Bool) → (b && false) ≡ false
-        and-false true = refl
-        and-false false = refl
 
     module _ (full : length (t .index) ≡ bmpSize) where
       even : indexOdd t ≡ false

@@ -1,8 +1,8 @@
 // The lookup of a code point's categories over any lent tables, by the flat table or by rows. No table is believed: what would lie outside of one is
 // 26.
-use packed::BMP_SIZE;
 use packed::OFFSET_UNIT;
 use packed::Span;
+use paper::BMP_SIZE;
 use paper::NOT_SCALAR;
 use paper::Refusal;
 use paper::TABLES_APART;

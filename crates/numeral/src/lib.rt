@@ -4,7 +4,7 @@ use paper::BOUND_MARK;
 use paper::BOUND_UNREADABLE;
 ghost use mathlib.Core.Path.{_≡_};
 ghost use mathlib.Core.Option.{some};
-ghost use Prim.Native.Nat.{ℕ, _+_, _≤_, _<_};
+ghost use Prim.Native.Nat.{_+_, _≤_, _<_};
 ghost use lib.ListN.{length, take, drop};
 ghost use Rattle.paper.specs.Sizes.{maxU32, maxI32, lowI32};
 ghost use Rattle.paper.specs.Numbers.Numeral.{digitOf};

@@ -18,10 +18,9 @@ use Rattle.paper.specs.Computed.ReadPack.{many, readNames, readDefinition, read
 use Rattle.paper.specs.Tables.Layout.{Tables, layout, inRoom, countsOf, nameSlots}
 use Rattle.paper.specs.Tables.Layout.{rangeSlots, definitionBytes, definitionSize}
 use Rattle.paper.specs.Tables.Lent.{patch, padded}
-use Rattle.paper.specs.declared.Counts.{Counts}
 use Rattle.paper.proofs.Tables.Laws.{table-length}
 use Rattle.paper.proofs.Tables.Append.{patch-padded, padded-length}
-use Rattle.paper.proofs.Tables.Trip.{tables-is, wide-definition}
+use Rattle.paper.proofs.Tables.Trip.{tables-is, counts-is, wide-definition}
 use Rattle.field.specs.Cursor.{rest}
 use Rattle.room.specs.Sized.{noTables}
 use Rattle.pack_head.specs.declared.Head.{Head}
@@ -115,10 +114,6 @@ module _ (p : List ℕ) (at : ℕ) (h : Head) where
           }
 
 -- ---- behind the head
-
-counts-is : (n : Counts) (a b c d e : ℕ) → a ≡ n .categories → b ≡ n .definitions → c ≡ n .ranges → d ≡ n .references → e ≡ n .bytes
-    → _≡_ {A = Counts} (record { categories = a; definitions = b; ranges = c; references = d; bytes = e }) n
-counts-is n a b c d e p q r s u = rw (p, q, r, s, u)
 
 module _ (p : List ℕ) (at : ℕ) (h : Head) where
   abbrev namesOf : FieldStep (List (List ℕ))

@@ -1,13 +1,12 @@
 -- The paper's readers step by step, from what the cursor found: a field with its rule, and one reader behind another.
 -- Assumes nothing.
-use Prim.Native.Nat.{ℕ, _+_, _*_, _≤_, _<_}
+use Prim.Native.Nat.{ℕ, _+_, _*_, _≤_}
 use native.Mathlib.Omega.{arith}
-use mathlib.Core.Path.{_≡_, refl, sym, ap, ap₂, _∙_}
-use mathlib.Core.Bool.{Bool, true, false, not, cond, _&&_}
+use mathlib.Core.Path.{_≡_, refl, sym, ap, _∙_}
+use mathlib.Core.Bool.{Bool, true, false, not, cond}
 use mathlib.Core.List.{List}
-use lib.Dec.{leb}
-use borrow.Author.Tests.{le-leb, lt-leb}
-use Rattle.paper.specs.Refusals.{packEnds, packRule}
+use borrow.Author.Tests.{le-leb}
+use Rattle.paper.specs.Refusals.{packRule}
 use Rattle.paper.specs.Pack.Fields.{byteWidth}
 use Rattle.paper.specs.Computed.ReadPack.{Taken, short, taken, takeNumber, FieldStep, gave, broke, Reader}
 use Rattle.paper.specs.Computed.ReadPack.{afterStep, _▹_, settle, fieldOr, number, free, takeBytes, bytesField}

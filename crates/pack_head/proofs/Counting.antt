@@ -3,7 +3,6 @@
 use Prim.Native.Nat.{ℕ, _+_, _≤_}
 use native.Mathlib.Omega.{arith}
 use mathlib.Core.Path.{_≡_, refl, sym, ap, _∙_}
-use mathlib.Core.Bool.{true, false}
 use mathlib.Core.List.{List}
 use lib.Dec.{leb, eqb}
 use borrow.Author.Tests.{leb-true, eq-eqb, ne-eqb}
@@ -11,13 +10,13 @@ use Rattle.paper.specs.Sizes.{maxCategories, maxCategoryLines, maxRanges, maxRe
 use Rattle.paper.specs.Refusals.{packVersion, packRule}
 use Rattle.paper.specs.CharDef.Reading.{Reading}
 use Rattle.paper.specs.Pack.Fields.{version, versionWidth, categoriesWidth, linesWidth, rangesWidth, referencesWidth, headWidth}
-use Rattle.paper.specs.Computed.ReadPack.{FieldStep, gave, broke, number, fieldOr, upTo, countRule, readBody, readCounted, readFields}
+use Rattle.paper.specs.Computed.ReadPack.{FieldStep, gave, broke, number, fieldOr, upTo, countRule, readCounted, readFields}
 use Rattle.field.specs.Cursor.{rest, fieldAt}
 use Rattle.pack_head.specs.declared.HeadRead.{HeadRead}
 use Rattle.pack_head.specs.declared.HeadRead.the-variants.{Read, Refused}
 use Rattle.pack_field.specs.Parts.{maxPlace}
 use Rattle.pack_head.specs.Head.{lastWidth, countsWidth, readLast, HeadIn, HeadIs}
-use Rattle.pack_field.proofs.Steps.{go-on, stop, Behind, behind, alike, cut, keeps, breaks}
+use Rattle.pack_field.proofs.Steps.{go-on, stop, behind, alike, cut, keeps, breaks}
 
 -- a count within its limit
 up-to : (w limit at : ℕ) (s : List ℕ) → number w (countRule limit 0) at s ≡ number w (upTo limit) at s

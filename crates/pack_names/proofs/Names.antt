@@ -5,9 +5,9 @@ use native.Mathlib.Decide.{ℕ-discrete}
 use native.Mathlib.Numerals.{add-one}
 use native.Mathlib.Omega.{arith}
 use mathlib.Core.Path.{_≡_, refl, sym, ap, ap₂, _∙_}
-use mathlib.Core.Bool.{Bool, true, false, not, _&&_, _||_, cond}
+use mathlib.Core.Bool.{Bool, true, false, not, _&&_}
 use mathlib.Core.List.{List, [], _∷_, _++_, map, append-assoc, append-nil}
-use lib.ListN.{length, take, drop, getD, set, replicate, length-append, length-map, length-set, length-replicate, List·getD-append}
+use lib.ListN.{length, take, drop, getD, set, length-append, length-map, length-set, List·getD-append}
 use lib.Seq.{take-at, drop-at, getD-append-seam, getD-set-same, getD-set-other, drop-drop}
 use borrow.Author.Tests.{le-leb}
 use Rattle.paper.specs.Sizes.{maxCategories, maxNameBytes}
@@ -16,29 +16,19 @@ use Rattle.paper.specs.Numbers.Bytes.{le}
 use Rattle.paper.specs.CharDef.Reading.{nameBytes}
 use Rattle.paper.specs.Computed.ReadPack.{nameRule}
 use Rattle.paper.specs.Computed.Rules.{formed}
-use Rattle.paper.specs.Tables.Layout.{NameSlot, nameSlotBytes, nameSlotOf, nameSlots, pieces, nameSlotSize}
+use Rattle.paper.specs.Tables.Layout.{nameSlotBytes, nameSlotOf, nameSlots, pieces, nameSlotSize}
 use Rattle.paper.specs.Tables.Lent.{num, patch, padded}
 use Rattle.paper.proofs.Apart.{zero-one}
-use Rattle.paper.proofs.Lists.Facts.{joined-length, joined-append, map-append, sum-append}
+use Rattle.paper.proofs.Lists.Facts.{joined-length, joined-snoc, map-append, sum-append}
 use Rattle.paper.proofs.Tables.Laws.{pieces-table, pieces-length, table-length}
 use Rattle.paper.proofs.Tables.Append.{patch-patch, patch-padded, padded-length, entry-more}
+use Rattle.paper.proofs.Tables.Room.{zeros, padded-is}
 use Rattle.paper.proofs.Tables.Trip.{places-length, wide-place}
 use Rattle.name_rules.specs.Placed.{placed, nameOf, placedNames}
 use Rattle.name_rules.specs.Mark.{mark, Marked}
 use Rattle.name_rules.proofs.Placed.{placed-snoc}
 use Rattle.pack_names.specs.Names.{Store, Stored, Named, Naming}
 use Rattle.pack_field.proofs.Steps.{fails, passes}
-
--- the zero bytes behind l: shut, so that nothing counts them out
-zeros : ℕ → List ℕ → List ℕ
-zeros n l = replicate (n - length l) 0
-
-padded-is : (n : ℕ) (l : List ℕ) → padded n l ≡ l ++ zeros n l
-unfolding padded zeros
-padded-is n l = refl
-
-joined-snoc : (ns : List (List ℕ)) (n : List ℕ) → joined (ns ++ (n ∷ [])) ≡ joined ns ++ n
-joined-snoc ns n = joined-append ns (n ∷ []) ∙ ap (λ l. joined ns ++ l) (append-nil n)
 
 -- a name behind others in a store of n bytes
 stored-part : (n : ℕ) (ns : List (List ℕ)) (name store : List ℕ) (start len : ℕ) → store ≡ padded n (joined (ns ++ (name ∷ [])))

@@ -2,9 +2,9 @@
 -- Assumes nothing.
 use Prim.Native.Nat.{ℕ, zero, suc, _+_, _*_, _-_, _≤_, _<_}
 use native.Mathlib.Omega.{arith}
-use mathlib.Core.Path.{_≡_, refl, sym, ap, ap₂, _∙_}
+use mathlib.Core.Path.{_≡_, refl, sym, ap, _∙_}
 use mathlib.Core.Bool.{Bool, true, false, not, cond, _&&_, _||_}
-use mathlib.Core.List.{List, [], _∷_, _++_, map, append-nil}
+use mathlib.Core.List.{List, [], _∷_, _++_, append-nil}
 use lib.Dec.{leb, ltb}
 use lib.ListN.{length, take, drop, set}
 use borrow.Author.Tests.{le-leb, lt-leb, lt-ltb, le-ltb}
@@ -13,7 +13,7 @@ use Rattle.paper.specs.Refusals.{packRule}
 use Rattle.paper.specs.Lists.{any, same}
 use Rattle.paper.specs.Pack.Fields.{byteWidth, nameLengthWidth}
 use Rattle.paper.specs.Computed.ReadPack.{Taken, short, taken, takeBytes, FieldStep, gave, broke, Reader, afterStep}
-use Rattle.paper.specs.Computed.ReadPack.{_▹_, give, settle, fieldOr, number, bytesField, lengthRule, nameRule, readName, readNames}
+use Rattle.paper.specs.Computed.ReadPack.{_▹_, give, settle, number, bytesField, lengthRule, nameRule, readName, readNames}
 use Rattle.paper.specs.Computed.Rules.{formed}
 use Rattle.paper.specs.Tables.Layout.{nameSlotBytes, nameSlotSize}
 use Rattle.paper.specs.Tables.Lent.{patch}
@@ -25,7 +25,7 @@ use Rattle.pack_field.specs.declared.CountRead.{CountRead}
 use Rattle.pack_field.specs.declared.CountRead.the-variants.{Read, Refused}
 use Rattle.pack_field.specs.Parts.{maxPlace}
 use Rattle.pack_names.specs.Names.{Store, Stored, Named, Naming, KeptIs, NameIn, NameIs, NamesIn}
-use Rattle.pack_field.proofs.Steps.{go-on, stop, cut, keeps, breaks, behind, bytes-cut, bytes-keep, bytes-break, fails, passes}
+use Rattle.pack_field.proofs.Steps.{go-on, stop, cut, keeps, breaks, behind, bytes-keep, bytes-break, fails, passes}
 use Rattle.pack_field.proofs.Fill.{prepend, prepend-more, prepend-none, put-first}
 use Rattle.pack_names.proofs.Names.{named-more}
 

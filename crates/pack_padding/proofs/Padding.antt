@@ -2,17 +2,17 @@
 -- Assumes nothing.
 use Prim.Native.Nat.{ℕ, zero, suc, _+_, _-_, _*_, _/_, _%_, _≤_, _<_}
 use native.Mathlib.Omega.{arith}
-use mathlib.Core.Path.{_≡_, refl, sym, ap, ap₂, _∙_}
+use mathlib.Core.Path.{_≡_, refl, sym, ap, _∙_}
 use mathlib.Core.Bool.{Bool, true, false, _&&_}
 use mathlib.Core.List.{List, [], _∷_}
-use lib.Dec.{ltb, eqb}
-use lib.ListN.{length, drop, drop-of-length-le, length-drop}
-use borrow.Author.Tests.{lt-ltb, le-ltb, eq-eqb, ne-eqb}
+use lib.Dec.{eqb}
+use lib.ListN.{length, drop-of-length-le, length-drop}
+use borrow.Author.Tests.{lt-ltb, le-ltb, ne-eqb}
 use Rattle.paper.specs.Lists.{all}
 use Rattle.paper.specs.Pack.Fields.{byteWidth, bitsOf}
 use Rattle.paper.specs.Computed.ReadPack.{takeNumber, taken, gave, broke, isPadding}
 use Rattle.paper.proofs.Apart.{broke-gave, short-taken}
-use Rattle.field.specs.Cursor.{lastPlace, rest, fieldAt}
+use Rattle.field.specs.Cursor.{rest, fieldAt}
 use Rattle.field.proofs.Bridge.{unpack-size, field-there}
 use Rattle.field.proofs.Promise.{field-took, field-on}
 use Rattle.pack_field.specs.Parts.{maxPlace}

@@ -1,14 +1,13 @@
 -- Ranges: bounds and count, then category numbers; each range into the two tables behind those before it.
 -- Assumes nothing.
-use Prim.Native.Nat.{ℕ, zero, suc, _+_, _*_, _-_, _≤_, _<_}
+use Prim.Native.Nat.{ℕ, suc, _+_, _*_, _-_, _≤_, _<_}
 use native.Mathlib.Omega.{arith}
 use mathlib.Core.Path.{_≡_, refl, sym, ap, ap₂, _∙_}
-use mathlib.Core.Bool.{Bool, true}
 use mathlib.Core.List.{List, [], _∷_, _++_, map, append-nil}
-use lib.Dec.{leb, ltb}
+use lib.Dec.{ltb}
 use lib.ListN.{length, length-append}
 use borrow.Author.Tests.{leb-true, ltb-true}
-use Rattle.paper.specs.Sizes.{maxCategories, maxRanges, maxReferences}
+use Rattle.paper.specs.Sizes.{maxRanges, maxReferences}
 use Rattle.paper.specs.Refusals.{packRule}
 use Rattle.paper.specs.Lists.{joined}
 use Rattle.paper.specs.Numbers.Bytes.{le}
@@ -16,12 +15,12 @@ use Rattle.paper.specs.CharDef.Reading.{Range, references}
 use Rattle.paper.specs.Pack.Fields.{boundWidth, countWidth, numberWidth, rangeWidth}
 use Rattle.paper.specs.Pack.Rules.{isBound}
 use Rattle.paper.specs.Computed.ReadPack.{FieldStep, gave, broke, Reader, afterStep, _▹_, give, number, countRule, many, readRange, readRanges}
-use Rattle.paper.specs.Tables.Layout.{RangeSlot, slotBytes, rangeSlots, rangeTable, referenceTable, rangeSlotSize, referenceSize}
+use Rattle.paper.specs.Tables.Layout.{RangeSlot, slotBytes, rangeSlots, rangeTable, rangeSlotSize, referenceSize}
 use Rattle.paper.specs.Tables.Lent.{patch, padded}
 use Rattle.paper.proofs.Lists.Facts.{true→T}
 use Rattle.paper.proofs.Pack.Trip.{bound-bits}
 use Rattle.paper.proofs.Tables.Laws.{patch-length}
-use Rattle.paper.proofs.Tables.Append.{patch-patch, ranges-more, references-more, references-snoc, padded-length}
+use Rattle.paper.proofs.Tables.Append.{ranges-more, references-more, references-snoc, padded-length}
 use Rattle.field.specs.Cursor.{rest}
 use Rattle.pack_ranges.specs.declared.Bounds.{Bounds}
 use Rattle.pack_field.specs.Parts.{Fills}
@@ -94,15 +93,6 @@ known-read p known at {v} e =
     record { on = b .on; small = ltb-true v known (b .kept) }
 
 -- ---- a range
-
-pub four-puts : (at a b c d : ℕ) (l l₁ l₂ l₃ l₄ : List ℕ) → at + 8 ≤ length l
-    → l₁ ≡ patch at (le 2 a) l → l₂ ≡ patch (at + 2) (le 2 b) l₁ → l₃ ≡ patch (at + 4) (le 2 c) l₂ → l₄ ≡ patch (at + 6) (le 2 d) l₃
-    → l₄ ≡ patch at (slotBytes (record { lower = a; upper = b; first = c; count = d })) l
-four-puts at a b c d l l₁ l₂ l₃ l₄ h p q r s =
-    s ∙ ap (patch (at + 6) (le 2 d)) (r ∙ ap (patch (at + 4) (le 2 c)) (q ∙ ap (patch (at + 2) (le 2 b)) p
-    ∙ patch-patch at (at + 2) (le 2 a) (le 2 b) l refl (omega arith))
-    ∙ patch-patch at (at + 4) (le 2 a ++ le 2 b) (le 2 c) l refl (omega arith))
-    ∙ patch-patch at (at + 6) (le 2 a ++ le 2 b ++ le 2 c) (le 2 d) l refl (omega arith)
 
 module _ {p : List ℕ} {at known total used at₁ : ℕ} {g : FieldStep Range} {h : Bounds} (z : BoundsIn p at known total used g h at₁) where
   abbrev numbers : FieldStep (List ℕ)

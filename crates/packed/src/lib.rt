@@ -1,5 +1,6 @@
 // The packed entry of a code point, and one category of the flat pool. The index and the pool are lent, and neither is believed: what would lie outside of
 // one is 26. What the lookup of categories needs besides stands here too: which numbers are scalar values, and how a flat entry is put together.
+use paper::BMP_SIZE;
 use paper::NOT_SCALAR;
 use paper::Refusal;
 use paper::TABLES_APART;
@@ -10,8 +11,6 @@ ghost use Rattle.paper.specs.Sizes.{bmpSize};
 ghost use Rattle.paper.specs.Text.Scalar.{isScalar};
 ghost use Rattle.paper.specs.Rows.Lookup.{packedAt};
 ghost use Rattle.packed.specs.Entries.{packed, categoryIn, category};
-
-pub const BMP_SIZE: usize = 65536;
 
 // A flat entry is offset * OFFSET_UNIT + length.
 pub const OFFSET_UNIT: u32 = 256;

@@ -11,11 +11,11 @@ use Rattle.paper.specs.Lists.{joined}
 use Rattle.paper.specs.Pack.Fields.{version, versionWidth, categoriesWidth, linesWidth, rangesWidth, referencesWidth, Field, field, flag, definitionFields}
 use Rattle.paper.specs.Tables.Layout.{definitionSize, invokeAt, groupAt, definitionOf, pieces}
 use Rattle.paper.specs.Tables.Lent.{got}
-use Rattle.paper.proofs.Lists.Facts.{map-append}
+use Rattle.paper.proofs.Lists.Facts.{map-append, joined-map-snoc}
 use Rattle.paper.specs.declared.Counts.{Counts}
 use Rattle.table_rules.proofs.Turn.{entry}
 use Rattle.table_rules.proofs.Entries.{first-got}
-use Rattle.put_ranges.proofs.Entries.{pieces-more, joined-snoc}
+use Rattle.put_ranges.proofs.Entries.{pieces-more}
 use Rattle.put_parts.specs.Parts.{headOf}
 
 -- what is made of the entries so far, and of one more
@@ -24,7 +24,7 @@ pub joined-more : {A B : Type 0} (f : A → List B) (g : List ℕ → A) (w i : 
 joined-more f g w i l =
     ap (λ ps. joined (map f (map g ps))) (pieces-more w i l)
     ∙ ap (λ xs. joined (map f xs)) (map-append g (pieces w i l) (entry w i l ∷ []))
-    ∙ joined-snoc f (map g (pieces w i l)) (g (entry w i l))
+    ∙ joined-map-snoc f (map g (pieces w i l)) (g (entry w i l))
 
 -- ---- a definition
 

@@ -10,10 +10,11 @@ use Rattle.paper.specs.Lists.{joined, sum}
 use Rattle.paper.specs.Pack.Fields.{field, nameLengthWidth, byteWidth, nameFields}
 use Rattle.paper.specs.Tables.Layout.{nameSlotSize, nameLenAt, nameSlotOf, split}
 use Rattle.paper.specs.Tables.Lent.{got}
+use Rattle.paper.proofs.Lists.Facts.{joined-map-snoc}
 use Rattle.table_rules.proofs.Turn.{entry}
 use Rattle.table_rules.proofs.Entries.{field-got, inside}
 use Rattle.put_parts.specs.Parts.{lengthsIn}
-use Rattle.put_ranges.proofs.Entries.{amounts-more, amounts-sum, amounts-below, joined-snoc}
+use Rattle.put_ranges.proofs.Entries.{amounts-more, amounts-sum, amounts-below}
 
 -- a name's length, and its bytes
 pub name-fields : (first n : ℕ) (l : List ℕ) → first + n ≤ length l
@@ -57,5 +58,5 @@ module _
     name-more names =
         sym (ap (λ ns. joined (map nameFields (split ns names))) (amounts-more (λ p. p .len) nameSlotOf nameSlotSize categories i)
         ∙ ap (λ ls. joined (map nameFields ls)) (split-snoc (lengthsIn i categories) (nameSlotOf (entry nameSlotSize i categories) .len) names)
-        ∙ joined-snoc nameFields (split (lengthsIn i categories) names) _
+        ∙ joined-map-snoc nameFields (split (lengthsIn i categories) names) _
         ∙ ap₂ (λ a b. joined (map nameFields (split (lengthsIn i categories) names)) ++ nameFields (take a (drop b names))) (sym len-is) (sym s))

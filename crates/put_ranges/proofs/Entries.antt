@@ -4,14 +4,14 @@ use Prim.Native.Nat.{ℕ, zero, suc, _+_, _*_, _-_, _≤_}
 use native.Mathlib.Nat.{mul-suc, mul-zero, zero-add, suc-add}
 use native.Mathlib.Omega.{arith}
 use mathlib.Core.Path.{_≡_, sym, ap, ap₂, _∙_}
-use mathlib.Core.List.{List, [], _∷_, _++_, map, append-nil}
+use mathlib.Core.List.{List, [], _∷_, _++_, map}
 use lib.ListN.{length, take, drop}
 use lib.Seq.{drop-drop}
-use Rattle.paper.specs.Lists.{joined, sum}
+use Rattle.paper.specs.Lists.{sum}
 use Rattle.paper.specs.Pack.Fields.{field}
 use Rattle.paper.specs.Tables.Layout.{referenceSize, pieces}
 use Rattle.paper.specs.Tables.Lent.{num, got}
-use Rattle.paper.proofs.Lists.Facts.{map-append, joined-map, sum-append}
+use Rattle.paper.proofs.Lists.Facts.{map-append, sum-append}
 use Rattle.table_rules.proofs.Turn.{entry}
 use Rattle.table_rules.proofs.Entries.{first-got}
 use Rattle.put_field.proofs.Bytes.{field-more}
@@ -31,9 +31,6 @@ pieces-add w (suc m) n l =
 pub pieces-more : (w i : ℕ) (l : List ℕ) → pieces w (i + 1) l ≡ pieces w i l ++ (entry w i l ∷ [])
 unfolding pieces
 pieces-more w i l = pieces-add w i 1 l
-
-pub joined-snoc : {A B : Type 0} (f : A → List B) (xs : List A) (x : A) → joined (map f (xs ++ (x ∷ []))) ≡ joined (map f xs) ++ f x
-joined-snoc f xs x = joined-map f xs (x ∷ []) ∙ ap (λ l. joined (map f xs) ++ l) (append-nil (f x))
 
 -- ---- a number in each entry
 

@@ -1,6 +1,6 @@
 -- A turn of the loop over the ranges: one more slot, and the references behind those of the ranges so far.
 -- Assumes nothing.
-use Prim.Native.Nat.{ℕ, zero, suc, _+_, _*_, _≤_, _<_}
+use Prim.Native.Nat.{ℕ, _+_, _*_, _≤_, _<_}
 use native.Mathlib.Omega.{arith}
 use mathlib.Core.Path.{_≡_, refl, sym, ap, ap₂, _∙_}
 use mathlib.Core.List.{List, [], _∷_, _++_, map}
@@ -11,25 +11,12 @@ use Rattle.paper.specs.CharDef.Reading.{Range}
 use Rattle.paper.specs.Pack.Fields.{Field, field, boundWidth, countWidth, numberWidth, rangeFields}
 use Rattle.paper.specs.Tables.Layout.{RangeSlot, rangeSlotSize, referenceSize, upperAt, countAt, slotOf, pieces, ranging}
 use Rattle.paper.specs.Tables.Lent.{num, got}
-use Rattle.paper.proofs.Lists.Facts.{map-append}
-use Rattle.paper.proofs.Tables.Laws.{pieces-length}
+use Rattle.paper.proofs.Lists.Facts.{map-append, joined-map-snoc}
+use Rattle.paper.proofs.Tables.Laws.{pieces-length, part-numbers}
 use Rattle.table_rules.proofs.Turn.{entry}
 use Rattle.table_rules.proofs.Entries.{first-got, field-got, inside}
 use Rattle.put_ranges.specs.Ranges.{countsIn, numbersFrom, allNumbers}
-use Rattle.put_ranges.proofs.Entries.{pieces-more, amounts-sum, amounts-below, joined-snoc}
-
--- a part of the references
-part-numbers : (n k i : ℕ) (l : List ℕ) → i + k ≤ n
-    → take k (drop i (map (num referenceSize 0) (pieces referenceSize n l))) ≡ map (num referenceSize 0) (pieces referenceSize k (drop (referenceSize * i) l))
-unfolding pieces
-part-numbers n zero zero l h = refl
-part-numbers zero (suc k) zero l h = absurd (omega arith)
-part-numbers (suc n) (suc k) zero l h = ap (λ m. num referenceSize 0 (take referenceSize l) ∷ m) (part-numbers n k zero (drop referenceSize l) (omega arith))
-part-numbers zero k (suc i) l h = absurd (omega arith)
-part-numbers (suc n) k (suc i) l h =
-    let e : referenceSize + referenceSize * i ≡ referenceSize * suc i = omega arith in
-    part-numbers n k i (drop referenceSize l) (omega arith)
-    ∙ ap (λ m. map (num referenceSize 0) (pieces referenceSize k m)) (drop-drop (referenceSize * i) referenceSize l ∙ ap (λ m. drop m l) e)
+use Rattle.put_ranges.proofs.Entries.{pieces-more, amounts-sum, amounts-below}
 
 numbers-part : (total k i : ℕ) (l : List ℕ) → i + k ≤ total → take k (drop i (numbersFrom 0 total l)) ≡ numbersFrom i k l
 unfolding numbersFrom
@@ -114,6 +101,6 @@ module _
             sym (ap (λ ps. so-far (map slotOf ps)) (pieces-more rangeSlotSize i ranges)
             ∙ ap so-far (map-append slotOf (pieces rangeSlotSize i ranges) (entry rangeSlotSize i ranges ∷ []))
             ∙ ap (λ gs. joined (map rangeFields gs)) (ranging-snoc slots slot (allNumbers n ranges references))
-            ∙ joined-snoc rangeFields (ranging slots (allNumbers n ranges references)) _
+            ∙ joined-map-snoc rangeFields (ranging slots (allNumbers n ranges references)) _
             ∙ ap (λ l. so-far slots ++ l)
             (ap rangeFields this-is ∙ sym (range-fields lower upper count (numbersFrom used count references) (numbers-count used count references))))

@@ -2,7 +2,7 @@
 -- is left open.
 -- Assumes nothing.
 use Prim.Native.Nat.{ℕ, _*_, _-_, _≤_}
-use mathlib.Core.Path.{_≡_, refl, sym, ap, ap₂, _∙_}
+use mathlib.Core.Path.{_≡_, refl, sym, ap, _∙_}
 use mathlib.Core.Logic.{_↔_}
 use mathlib.Core.Bool.{Bool, true, false, cond}
 use mathlib.Core.List.{List, _++_, append-assoc}
@@ -24,7 +24,7 @@ use Rattle.paper.specs.declared.Outcome.{Outcome}
 use Rattle.paper.specs.declared.Outcome.the-variants.{Accepted, Refused}
 use Rattle.paper.proofs.Apart.{zero-one}
 use Rattle.paper.proofs.Tables.Append.{padded-length}
-use Rattle.paper.proofs.Tables.Room.{layout-fits}
+use Rattle.paper.proofs.Tables.Room.{zeros, padded-is, layout-fits}
 use Rattle.paper.proofs.Tables.Trip.{tables-is, handed-in}
 use Rattle.room.proofs.Sizes.{RoomIn, room-is}
 
@@ -77,12 +77,8 @@ module _ {a : Answer} {lent after : Tables} {r : Outcome} (room : hasRoom lent �
 
 -- ---- the reading is the one in the tables
 
-zeros : ℕ → List ℕ → List ℕ
-zeros n l = replicate (n - length l) 0
-
 padded-behind : (n : ℕ) (l m : List ℕ) → padded n l ++ m ≡ l ++ (zeros n l ++ m)
-unfolding padded zeros
-padded-behind n l m = append-assoc l (replicate (n - length l) 0) m
+padded-behind n l m = ap (λ p. p ++ m) (padded-is n l) ∙ append-assoc l (zeros n l) m
 
 more : Tables → Tables → Tables
 more t x =

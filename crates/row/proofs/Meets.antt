@@ -1,6 +1,6 @@
 -- Over tables that hold together, what total reads give is the paper's reading: its boundaries, the covering rule, and what the walk asks.
 -- Assumes nothing.
-use Prim.Native.Nat.{ℕ, zero, suc, _+_, _*_, _<_, _≤_}
+use Prim.Native.Nat.{ℕ, _+_, _*_, _<_, _≤_}
 use native.Mathlib.Omega.{arith}
 use mathlib.Core.Path.{_≡_, refl, sym, ap, ap₂, _∙_, subst}
 use mathlib.Core.Bool.{Bool, true, false, cond}
@@ -9,19 +9,19 @@ use lib.Dec.{T, leb, ltb, eqb}
 use lib.ListN.{length, take, drop}
 use lib.Seq.{drop-drop}
 use mir.Facts.{and-yes, yes-and, leb-yes, ltb-yes, yes-ltb, eqb-yes}
-use Rattle.paper.specs.Sizes.{maxCategories, maxRanges}
+use Rattle.paper.specs.Sizes.{maxCategories}
 use Rattle.paper.specs.Lists.{all, select, joined, firstSeen}
 use Rattle.paper.specs.CharDef.Reading.{Range}
 use Rattle.paper.specs.Rows.Covering.{orElse, ascending, boundaries, rangeHolds, covers, named, defaults, categoriesAt, rows}
-use Rattle.paper.specs.Computed.HandedIn.{slotsStand, slotsIn, numbersIn, decoded, holds, enough, nameSlotsStand, nameSlotsIn, flagged}
+use Rattle.paper.specs.Computed.HandedIn.{slotsStand, slotsIn, numbersIn, decoded, holds}
 use Rattle.paper.specs.Pack.Rules.{isBound}
-use Rattle.paper.specs.Tables.Layout.{RangeSlot, pieces, ranging, Tables, definitionSize, rangeSlotSize, referenceSize}
+use Rattle.paper.specs.Tables.Layout.{RangeSlot, pieces, ranging, Tables, rangeSlotSize, referenceSize}
 use Rattle.paper.specs.Tables.Lent.{num}
 use Rattle.paper.specs.declared.Counts.{Counts}
 use Rattle.paper.proofs.Lists.Facts.{all-append, all-imp}
 use Rattle.paper.proofs.Pack.Trip.{bound-bits}
-use Rattle.paper.proofs.Tables.Laws.{all-take, all-drop}
-use Rattle.paper.proofs.Tables.Trip.{says}
+use Rattle.paper.proofs.Tables.Laws.{part-numbers, all-take, all-drop}
+use Rattle.paper.proofs.Tables.Trip.{Parts, parts}
 use Rattle.window.specs.Near.{noBoundary}
 use Rattle.walk.specs.Next.{endsOf}
 use Rattle.cover.specs.Slots.{slotsGot, numbersGot, slotHolds, coversGot}
@@ -33,18 +33,6 @@ use Rattle.fill_rows.specs.Walked.{boundariesOf, rowOf, rowsOf, Readable}
 -- the first n numbers of a table, and a part of them
 abbrev numbered : ℕ → List ℕ → List ℕ
 numbered n l = map (num referenceSize 0) (pieces referenceSize n l)
-
-numbers-part : (n k i : ℕ) (l : List ℕ) → i + k ≤ n → take k (drop i (numbered n l)) ≡ numbered k (drop (referenceSize * i) l)
-unfolding pieces
-numbers-part n zero zero l h = refl
-numbers-part zero (suc k) zero l h = absurd (omega arith)
-numbers-part (suc n) (suc k) zero l h = ap (λ m. num 2 0 (take 2 l) ∷ m) (numbers-part n k zero (drop 2 l) (omega arith))
-numbers-part zero zero (suc i) l h = absurd (omega arith)
-numbers-part zero (suc k) (suc i) l h = absurd (omega arith)
-numbers-part (suc n) zero (suc i) l h = refl
-numbers-part (suc n) (suc k) (suc i) l h =
-    let e : 2 + 2 * i ≡ 2 * suc i = omega arith in
-    numbers-part n (suc k) i (drop 2 l) (omega arith) ∙ ap (numbered (suc k)) (drop-drop (2 * i) 2 l ∙ ap (λ m. drop m l) e)
 
 -- ---- ranges
 
@@ -101,7 +89,7 @@ covers-same c total at (r ∷ rs) l h t = go (slotHolds c r) (covers-same c tota
     here : numbersGot (r .first) (r .count) l ≡ take (r .count) (drop at (numbered total l))
     here =
         let k : at + r .count ≤ total = s .within in
-        ap (λ i. numbersGot i (r .count) l) (s .here) ∙ numbers-got (r .count) at l (omega arith) ∙ sym (numbers-part total (r .count) at l k)
+        ap (λ i. numbersGot i (r .count) l) (s .here) ∙ numbers-got (r .count) at l (omega arith) ∙ sym (part-numbers total (r .count) at l k)
 
     on : drop (r .count) (drop at (numbered total l)) ≡ drop (at + r .count) (numbered total l)
     on = drop-drop (r .count) at (numbered total l)
@@ -128,32 +116,6 @@ held-all p c (r ∷ rs) ns t = go (slotHolds c r) (held-all p c rs (drop (r .cou
 
 -- ---- tables that hold together
 
-record Parts (t : Tables) (n : Counts) : Type 0 where
-  few-categories : n .categories ≤ maxCategories
-  few-ranges : n .ranges ≤ maxRanges
-  in-ranges : rangeSlotSize * n .ranges ≤ length (t .ranges)
-  in-references : referenceSize * n .references ≤ length (t .references)
-  stand : T (slotsStand (n .references) 0 (slotsIn t n))
-  known : T (all (λ c. ltb c (n .categories)) (numbersIn t n))
-
-parts : (t : Tables) (n : Counts) → T (holds t n) → Parts t n
-unfolding holds
-parts t n h =
-    let h1 = and-yes (enough (length (t .names)) (length (t .categories)) (length (t .definitions)) (length (t .ranges)) (length (t .references)) n) _ h in
-    let h2 = and-yes (nameSlotsStand (n .bytes) 0 (nameSlotsIn t n)) _ (h1 .1) in
-    let h3 = and-yes (all flagged (pieces definitionSize (n .definitions) (t .definitions))) _ (h2 .1) in
-    let h4 = and-yes (slotsStand (n .references) 0 (slotsIn t n)) _ (h3 .1) in
-    let h5 = and-yes (all (λ c. ltb c (n .categories)) (numbersIn t n)) _ (h4 .1) in
-    let e = says _ _ _ _ _ n (h1 .0) in
-    record {
-      few-categories = e .limits .0;
-      few-ranges = e .limits .1 .1 .1 .0;
-      in-ranges = e .for-ranges;
-      in-references = e .for-references;
-      stand = h4 .0;
-      known = h5 .0;
-    }
-
 module _ (t : Tables) (n : Counts) (h : T (holds t n)) where
   q : Parts t n
   q = parts t n h
@@ -161,25 +123,25 @@ module _ (t : Tables) (n : Counts) (h : T (holds t n)) where
   slots-are : slotsGot 0 (n .ranges) (t .ranges) ≡ slotsIn t n
   unfolding slotsIn
   slots-are =
-      let k : rangeSlotSize * n .ranges ≤ length (t .ranges) = q .in-ranges in
+      let k : rangeSlotSize * n .ranges ≤ length (t .ranges) = q .long .for-ranges in
       slots-got (n .ranges) 0 (t .ranges) (omega arith)
 
   covers-are : (c : ℕ) → coversGot c (slotsGot 0 (n .ranges) (t .ranges)) (t .references) ≡ covers (decoded t n) c
   unfolding decoded numbersIn
   covers-are c =
       ap (λ rs. coversGot c rs (t .references)) slots-are
-      ∙ covers-same c (n .references) 0 (slotsIn t n) (t .references) (q .in-references) (q .stand)
+      ∙ covers-same c (n .references) 0 (slotsIn t n) (t .references) (q .long .for-references) (q .rowed)
 
   -- few categories, as the stamps ask
   pub few-names : n .categories ≤ maxCategories
-  few-names = q .few-categories
+  few-names = q .long .limits .0
 
   pub readable : Readable (t .ranges) (t .references) (n .ranges)
   unfolding decoded numbersIn
   readable =
       record {
-        few = q .few-ranges;
-        fits = subst (λ rs. T (all (λ x. ltb x noBoundary) (endsOf rs))) (sym slots-are) (ends-fit (n .references) 0 (slotsIn t n) (q .stand));
+        few = q .long .limits .1 .1 .1 .0;
+        fits = subst (λ rs. T (all (λ x. ltb x noBoundary) (endsOf rs))) (sym slots-are) (ends-fit (n .references) 0 (slotsIn t n) (q .rowed));
         known = λ c. subst (λ l. T (all (λ x. ltb x maxCategories) l)) (sym (covers-are c))
             (held-all (λ x. ltb x maxCategories) c (slotsIn t n) (numbersIn t n)
             (all-imp (λ x. ltb x (n .categories)) (λ x. ltb x maxCategories) wider (numbersIn t n) (q .known)));
@@ -188,7 +150,7 @@ module _ (t : Tables) (n : Counts) (h : T (holds t n)) where
       wider : (x : ℕ) → T (ltb x (n .categories)) → T (ltb x maxCategories)
       wider x u =
           let a : x < n .categories = ltb-yes u in
-          let b : n .categories ≤ maxCategories = q .few-categories in
+          let b : n .categories ≤ maxCategories = q .long .limits .0 in
           yes-ltb {a = x} {b = maxCategories} (omega arith)
 
   pub boundaries-met : boundariesOf (slotsGot 0 (n .ranges) (t .ranges)) ≡ boundaries (decoded t n)

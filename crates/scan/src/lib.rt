@@ -2,7 +2,7 @@
 // and its ends; an end past the text is the text's, and a part that starts behind its end is empty. Over it stand `category_line` and `line`,
 // and `entry`, which walks the names of a range line.
 ghost use mathlib.Core.Path.{_≡_};
-ghost use Prim.Native.Nat.{_+_, _≤_, _<_};
+ghost use Prim.Native.Nat.{_+_, _<_};
 ghost use lib.ListN.{length, take, drop};
 ghost use Rattle.numeral.specs.Asked.{Least};
 ghost use Rattle.scan.specs.Marks.{gapByte, gapWidth};

@@ -1,14 +1,14 @@
 -- Counts have 16 bits and places 32: a line's number is no more than the text is long, a pack's place lies in its fields, and a reading keeps the limits.
 -- Assumes nothing.
-use Prim.Native.Nat.{ℕ, suc, _+_, _≤_, _<_}
+use Prim.Native.Nat.{ℕ, suc, _≤_, _<_}
 use native.Mathlib.Omega.{arith}
-use mathlib.Core.Path.{_≡_, refl, sym, ap, subst}
+use mathlib.Core.Path.{_≡_, refl, sym, subst}
 use mathlib.Core.Bool.{Bool, true, false, cond}
 use mathlib.Core.List.{List, [], _∷_}
 use lib.ListN.{length}
 use Rattle.paper.specs.Refusals.{roomShort}
 use Rattle.paper.specs.Lists.{cut, push}
-use Rattle.paper.specs.CharDef.Reading.{Reading, Answer, accepted, refused, Within, isLF}
+use Rattle.paper.specs.CharDef.Reading.{Answer, accepted, refused, Within, isLF}
 use Rattle.paper.specs.CharDef.Bad.{BadText, too-long, ill-formed, bad-line}
 use Rattle.paper.specs.Computed.ReadText.{readText}
 use Rattle.paper.specs.Computed.ReadPack.{readPack}

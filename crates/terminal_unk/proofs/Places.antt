@@ -12,7 +12,7 @@ use Rattle.paper.specs.CharDef.Reading.{Reading}
 use Rattle.paper.specs.Computed.HandedIn.{handedIn}
 use Rattle.paper.specs.Computed.ReadUnk.{readUnk}
 use Rattle.paper.specs.Tables.Layout.{Tables}
-use Rattle.paper.specs.Unk.Entry.{Entry, Unk, UnkFits, unkOf}
+use Rattle.paper.specs.Unk.Entry.{Unk, UnkFits, unkOf}
 use Rattle.paper.specs.Unk.Bad.{UnkAnswer, accepted, refused, UnkRefused, too-long, ill-formed, bad-line}
 use Rattle.paper.specs.declared.Counts.{Counts}
 use Rattle.paper.proofs.Unk.Details.{details-fit}

@@ -6,18 +6,17 @@ use native.Mathlib.Omega.{arith}
 use mathlib.Core.Path.{_≡_, refl, sym, ap, _∙_}
 use mathlib.Core.Bool.{Bool, true, false, cond, _&&_}
 use mathlib.Core.List.{List}
-use mathlib.Core.Option.{Option, none, some}
+use mathlib.Core.Option.{none}
 use lib.Dec.{leb}
 use lib.ListN.{length}
 use borrow.Author.Tests.{le-leb, lt-leb}
 use Rattle.paper.specs.Refusals.{roomShort}
-use Rattle.paper.specs.CharDef.Reading.{Reading}
 use Rattle.paper.specs.Numbers.Bytes.{le, u16Size, u32Size}
-use Rattle.paper.specs.Computed.HandedIn.{enough, decoded, holds, handedIn}
+use Rattle.paper.specs.Computed.HandedIn.{enough, holds, handedIn}
 use Rattle.paper.specs.Tables.Layout.{Tables}
 use Rattle.paper.specs.Tables.Lent.{num, got, zeroed, patch}
 use Rattle.paper.specs.Tables.Reader.{clears}
-use Rattle.paper.specs.Unk.Bad.{UnkAnswer, refused}
+use Rattle.paper.specs.Unk.Bad.{refused}
 use Rattle.paper.specs.declared.Counts.{Counts}
 use Rattle.paper.specs.declared.Refusal.{Refusal}
 use Rattle.paper.proofs.Tables.Append.{patch-patch}

@@ -1,28 +1,25 @@
 -- Tables of the sizes, from zero to what the lines say: zero memory holds no entries, and at the end the entry table's marks are the entries'.
 -- Assumes nothing.
-use Prim.Native.Nat.{ℕ, suc, _+_, _*_, _-_, _≤_, _<_}
+use Prim.Native.Nat.{ℕ, _-_, _≤_}
 use native.Mathlib.Omega.{arith}
 use mathlib.Core.Path.{_≡_, refl, sym, ap, ap₂, _∙_, subst}
-use mathlib.Core.Bool.{true}
-use mathlib.Core.List.{List, [], _∷_, _++_, map}
+use mathlib.Core.List.{List, [], _∷_, map}
 use mathlib.Core.Option.{Option, none, some}
 use lib.Dec.{T, leb}
 use lib.ListN.{length, replicate}
 use mir.Facts.{yes-and, yes-leb}
-use Rattle.paper.specs.Sizes.{maxCategories, maxUnkEntries, maxDetailBytes}
-use Rattle.paper.specs.Lists.{all, joined, offsetsFrom}
-use Rattle.paper.specs.Numbers.Bytes.{le, u32Size}
+use Rattle.paper.specs.Sizes.{maxCategories, maxDetailBytes}
+use Rattle.paper.specs.Lists.{all, joined}
 use Rattle.paper.specs.Rows.Lookup.{Looked, gives, refuses}
 use Rattle.paper.specs.Rows.Numbers.{findName}
 use Rattle.paper.specs.Tables.Layout.{pieces}
 use Rattle.paper.specs.Tables.Lent.{num, padded}
-use Rattle.paper.specs.Unk.Entry.{Entry, stored}
+use Rattle.paper.specs.Unk.Entry.{Entry}
 use Rattle.paper.specs.Computed.ReadUnk.{Entries}
-use Rattle.paper.proofs.Tables.Append.{padded-length}
-use Rattle.paper.proofs.Tables.Laws.{value-le, pieces-table, table-length}
+use Rattle.paper.proofs.Tables.Laws.{value-le, pieces-table}
 use Rattle.unk_enter.specs.declared.UnkCounts.{UnkCounts}
 use Rattle.unk.specs.Layout.{UnkTables}
-use Rattle.unk_enter.specs.Fields.{entrySize, offsetSize, markAt, wordBytes}
+use Rattle.unk_enter.specs.Fields.{entrySize, markAt, wordBytes}
 use Rattle.unk_enter.specs.Lines.{markSaid, markIn, Memory, entryBytes, Held}
 use Rattle.unk.specs.Walk.{WalkEnded}
 use Rattle.unk_members.specs.Members.{marksIn, listsFrom, Marked, placeTable, memberTable, Listed}

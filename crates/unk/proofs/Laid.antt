@@ -1,7 +1,7 @@
 -- The tables that the passes leave are the layout of what the text says. Over the reading's names a mark is suc c exactly where the name is name c,
 -- so the entries with that mark are those whose first field is the name; and the first list that has an entry is its mark's.
 -- Assumes nothing.
-use Prim.Native.Nat.{ℕ, zero, suc, _+_, _*_, _-_, _≤_, _<_}
+use Prim.Native.Nat.{ℕ, zero, suc, _+_, _-_, _≤_, _<_}
 use native.Mathlib.Nat.{not-suc-le-zero}
 use native.Mathlib.Numerals.{add-one}
 use native.Mathlib.Omega.{arith}
@@ -11,17 +11,16 @@ use mathlib.Core.List.{List, [], _∷_, _++_, map}
 use mathlib.Core.Option.{Option, none, some}
 use lib.Dec.{T, eqb}
 use lib.ListN.{length, getD, length-map}
-use borrow.Author.Tests.{eq-eqb, ne-eqb, eqb-true, eqb-false}
-use Rattle.paper.specs.Lists.{any, same, joined, offsetsFrom}
+use borrow.Author.Tests.{eq-eqb, ne-eqb, eqb-true}
+use Rattle.paper.specs.Lists.{any, same, joined}
 use Rattle.paper.specs.Rows.Lookup.{Looked, gives, refuses}
 use Rattle.paper.specs.Rows.Numbers.{lowestNamed, findName}
-use Rattle.paper.specs.Tables.Layout.{nameSlots}
-use Rattle.paper.specs.Unk.Entry.{Entry, Unk, entriesFrom, stored, unkOf}
-use Rattle.paper.proofs.Apart.{zero-one, refuses-gives}
-use Rattle.paper.proofs.Lists.Facts.{T→true, T→false, true→T, false→T}
+use Rattle.paper.specs.Unk.Entry.{Entry, entriesFrom, unkOf}
+use Rattle.paper.proofs.Apart.{zero-one}
+use Rattle.paper.proofs.Lists.Facts.{T→true, true→T}
 use Rattle.paper.proofs.Lists.Seen.{same-eq, same-refl}
 use Rattle.paper.proofs.Rows.Lowest.{lowest-first}
-use Rattle.unk.specs.Layout.{UnkTables, markAmong, entryTable, layout}
+use Rattle.unk.specs.Layout.{markAmong, entryTable, layout}
 use Rattle.unk_enter.specs.Fields.{wordBytes}
 use Rattle.unk_enter.specs.Lines.{markSaid, markIn, entryBytes}
 use Rattle.unk_members.specs.Members.{having, listsFrom, placeTable, memberTable}

@@ -1,12 +1,12 @@
 -- What the promise of `parse_unk` says, in the paper's relations, and that it leaves nothing open. Assumes nothing.
-use Prim.Native.Nat.{ℕ, suc, _+_, _*_, _-_, _≤_}
+use Prim.Native.Nat.{ℕ, _+_, _-_, _≤_}
 use native.Mathlib.Omega.{arith}
 use mathlib.Core.Path.{_≡_, refl, sym, ap, _∙_, subst}
 use mathlib.Core.Logic.{_↔_}
 use mathlib.Core.Bool.{Bool, true, false, cond}
-use mathlib.Core.List.{List, [], _∷_, _++_, map}
+use mathlib.Core.List.{List, _++_, map}
 use mathlib.Core.Option.{Option, none, some}
-use lib.ListN.{length, drop, replicate, getElem?, length-append, length-map, length-replicate}
+use lib.ListN.{length, drop, replicate, getElem?, length-map, length-replicate}
 use lib.Seq.{drop-at}
 use borrow.Author.Tests.{le-leb}
 use Rattle.paper.specs.Sizes.{maxCategories, maxUnkEntries, maxDetailBytes}
@@ -15,10 +15,10 @@ use Rattle.paper.specs.Lists.{joined, sum, offsetsFrom}
 use Rattle.paper.specs.Numbers.Bytes.{le, u32Size}
 use Rattle.paper.specs.CharDef.Reading.{Reading}
 use Rattle.paper.specs.Unk.Entry.{Entry, Unk, UnkFits, CategoryEntries, stored, unkOf, entriesOf}
-use Rattle.paper.specs.Unk.Bad.{UnkAnswer, accepted, refused, UnkFirstBad, UnkRefused}
+use Rattle.paper.specs.Unk.Bad.{UnkAnswer, accepted, refused, UnkRefused}
 use Rattle.paper.specs.Computed.HandedIn.{decoded, holds, handedIn}
 use Rattle.paper.specs.Computed.ReadUnk.{readUnk}
-use Rattle.paper.specs.Tables.Layout.{Tables, nameSlotSize, referenceSize}
+use Rattle.paper.specs.Tables.Layout.{Tables, referenceSize}
 use Rattle.paper.specs.Tables.Lent.{zeroed, padded}
 use Rattle.paper.specs.Tables.Reader.{clears}
 use Rattle.paper.specs.declared.Counts.{Counts}
@@ -37,7 +37,7 @@ use Rattle.unk.specs.declared.UnkOutcome.the-variants.{Accepted, Refused
 use Rattle.unk.specs.Layout.{UnkTables, layout}
 use Rattle.unk_enter.specs.Fields.{entrySize, offsetSize}
 use Rattle.unk_enter.specs.Lines.{markIn, entryBytes}
-use Rattle.unk_members.specs.Members.{listsFrom, tallies, placeTable, memberTable}
+use Rattle.unk_members.specs.Members.{listsFrom, tallies, memberTable}
 use Rattle.unk.specs.Parse.{entriesSize, offsetsSize, placesSize, membersSize, hasRoom, overReading, answerTo, countsOf, given, inRoom, past, behind, cleared, leaves, ParsesUnk}
 use Rattle.unk.specs.Filled.{marksOf, laidOut}
 use Rattle.unk.proofs.Room.{tables-is, RoomIn, room-is}

@@ -1,10 +1,10 @@
 -- The walk over the lines: what is left of them, read behind the entries so far, gives the answer to all. Assumes nothing.
-use Prim.Native.Nat.{ℕ, suc, _+_, _*_, _-_, _≤_, _<_}
+use Prim.Native.Nat.{ℕ, suc, _+_, _-_, _≤_, _<_}
 use native.Mathlib.Numerals.{add-one}
 use native.Mathlib.Omega.{arith}
 use native.Mathlib.Decide.{decLe}
-use mathlib.Core.Path.{_≡_, refl, sym, ap, ap₂, _∙_, subst}
-use mathlib.Core.Bool.{Bool, true, false, not, cond}
+use mathlib.Core.Path.{_≡_, refl, sym, ap, ap₂, _∙_}
+use mathlib.Core.Bool.{not}
 use mathlib.Core.List.{List, [], _∷_, _++_, map, append-assoc, append-nil}
 use lib.Dec.{T}
 use lib.ListN.{length, take, drop, length-append, length-drop, drop-of-length-le}
@@ -14,7 +14,7 @@ use Rattle.paper.specs.Sizes.{maxTextBytes, maxCategories, maxUnkEntries}
 use Rattle.paper.specs.Lists.{empty, is, until, cut, joined}
 use Rattle.paper.specs.Text.Scalar.{lf}
 use Rattle.paper.specs.Unk.Entry.{Entry, stored}
-use Rattle.paper.specs.Computed.ReadUnk.{dropCR, fromPieces, unkLines, UnkFound, entry, unkLineOf, Entries, entries-are, stops, consEntry, enterUnk, readEntries}
+use Rattle.paper.specs.Computed.ReadUnk.{dropCR, fromPieces, unkLines, UnkFound, unkLineOf, Entries, entries-are, stops, consEntry, enterUnk, readEntries}
 use Rattle.paper.proofs.Lists.Parts.{part-length}
 use Rattle.paper.proofs.Tables.Append.{table-snoc}
 use Rattle.paper.proofs.Unk.Details.{entry-short}

@@ -1,12 +1,11 @@
 -- From the parts to the whole: which answer each way through `parse_unk` is, and what it leaves. Assumes nothing.
-use Prim.Native.Nat.{ℕ, suc, _*_, _≤_, _<_}
+use Prim.Native.Nat.{ℕ, suc, _≤_, _<_}
 use native.Mathlib.Nat.{le-refl}
 use native.Mathlib.Omega.{arith}
-use mathlib.Core.Path.{_≡_, refl, sym, ap, ap₂, _∙_, subst}
+use mathlib.Core.Path.{_≡_, refl, sym, ap, _∙_, subst}
 use mathlib.Core.Bool.{Bool, true, false, not, cond}
 use mathlib.Core.List.{List, [], _∷_, _++_, map}
-use mathlib.Core.Option.{Option, none, some}
-use lib.Dec.{T, ltb, leb}
+use mathlib.Core.Option.{none, some}
 use lib.ListN.{length, take, drop, length-map}
 use lib.Seq.{take-length}
 use mir.Facts.{and-yes}
@@ -16,11 +15,11 @@ use Rattle.paper.specs.Refusals.{roomShort, textLong, textIllFormed, tablesApar
 use Rattle.paper.specs.Lists.{joined}
 use Rattle.paper.specs.Text.Scalar.{WellFormed, LongestPrefix}
 use Rattle.paper.specs.CharDef.Reading.{Reading}
-use Rattle.paper.specs.Unk.Entry.{Entry, Unk, stored, unkOf}
-use Rattle.paper.specs.Unk.Bad.{UnkAnswer, accepted, refused, BadUnkLine, fields-short, number-unreadable, entries-full, too-long, ill-formed}
+use Rattle.paper.specs.Unk.Entry.{Entry, stored, unkOf}
+use Rattle.paper.specs.Unk.Bad.{accepted, refused, BadUnkLine, fields-short, number-unreadable, entries-full, too-long, ill-formed}
 use Rattle.paper.specs.Computed.Decode.{chars, decode}
 use Rattle.paper.specs.Computed.HandedIn.{enough, nameSlotsIn, namesIn, decoded, holds, handedIn}
-use Rattle.paper.specs.Computed.ReadUnk.{Entries, entries-are, stops, readEntries, unkLines, answerUnk, readUnkText, readUnk}
+use Rattle.paper.specs.Computed.ReadUnk.{stops, readEntries, unkLines, answerUnk, readUnkText, readUnk}
 use Rattle.paper.specs.Tables.Layout.{Tables, split, pieces, nameSlotOf, nameSlotSize}
 use Rattle.paper.specs.Tables.Reader.{clears}
 use Rattle.paper.specs.declared.Counts.{Counts}
@@ -35,11 +34,11 @@ use Rattle.unk_enter.specs.declared.UnkCounts.{UnkCounts}
 use Rattle.unk.specs.declared.UnkOutcome.{UnkOutcome}
 use Rattle.unk.specs.declared.Judged.{Judged}
 use Rattle.unk.specs.declared.UnkOutcome.the-variants.{Accepted, Refused}
-use Rattle.unk.specs.Layout.{UnkTables, layout}
+use Rattle.unk.specs.Layout.{UnkTables}
 use Rattle.unk_enter.specs.Lines.{markIn}
 use Rattle.unk.specs.Parse.{entriesSize, offsetsSize, placesSize, membersSize, hasRoom, overReading, answerTo, countsOf, given, inRoom, past, behind, cleared, leaves, ParsesUnk}
-use Rattle.unk.specs.Filled.{LinesRead, Judges, SoundInput, UnsoundInput, noTables, laidOut}
-use Rattle.unk.proofs.Room.{RoomIn, room-is, cleared-is}
+use Rattle.unk.specs.Filled.{LinesRead, Judges, SoundInput, UnsoundInput}
+use Rattle.unk.proofs.Room.{room-is, cleared-is}
 use Rattle.unk.proofs.Laid.{Named, laid-out-is}
 
 -- ---- a reading's names

@@ -9,7 +9,7 @@ use lib.Seq.{length-take-le, take-suc, take-all, getD-drop, getD-take}
 use Rattle.paper.specs.Numbers.Bytes.{le}
 use Rattle.paper.specs.Tables.Lent.{patch}
 use Rattle.paper.proofs.Lists.Parts.{part-length}
-use Rattle.paper.proofs.Tables.Laws.{patch-in, patch-length}
+use Rattle.paper.proofs.Tables.Laws.{patch-in}
 use Rattle.paper.proofs.Tables.Append.{patch-patch}
 use Rattle.unk_line.specs.Line.{joinedFields, asJoined, storedFields}
 use Rattle.unk_line.proofs.Joined.{joined-map, joined-long}

@@ -1,18 +1,18 @@
 -- One line entered: the tables hold its entry behind the others, or the paper stops there. Assumes nothing.
-use Prim.Native.Nat.{ℕ, suc, _+_, _*_, _-_, _≤_, _<_}
+use Prim.Native.Nat.{ℕ, _+_, _*_, _-_, _≤_, _<_}
 use native.Mathlib.Omega.{arith}
 use mathlib.Core.Path.{_≡_, refl, sym, ap, ap₂, _∙_, subst}
 use mathlib.Core.List.{List, [], _∷_, _++_, map, append-nil}
 use lib.ListN.{length, take, drop, length-append, length-map, length-take}
 use borrow.Author.Tests.{lt-ltb}
-use Rattle.paper.specs.Sizes.{maxTextBytes, maxUnkEntries, maxDetailBytes}
+use Rattle.paper.specs.Sizes.{maxUnkEntries, maxDetailBytes}
 use Rattle.paper.specs.Refusals.{unkEntriesFull}
 use Rattle.paper.specs.Lists.{joined, offsetsFrom}
 use Rattle.paper.specs.Numbers.Bytes.{le, u32Size}
 use Rattle.paper.specs.Tables.Lent.{patch, padded}
 use Rattle.paper.specs.Unk.Entry.{Entry, stored, lengthBytes}
 use Rattle.paper.specs.Computed.ReadUnk.{UnkFound, entry, no-entry, Entries, stops, enterUnk, unkLineOf}
-use Rattle.paper.proofs.Lists.Facts.{map-append, joined-append, offsets-length}
+use Rattle.paper.proofs.Lists.Facts.{map-append, offsets-length}
 use Rattle.paper.proofs.Lists.Parts.{part-length}
 use Rattle.paper.proofs.Tables.Append.{padded-length, patch-padded, table-snoc, entry-more}
 use Rattle.paper.proofs.Tables.Laws.{le-length, table-length}

@@ -1,16 +1,16 @@
 -- An entry's category as its mark: what finding its name says, and that the number is below the count. Assumes nothing.
-use Prim.Native.Nat.{ℕ, suc, _+_, _-_, _*_, _≤_, _<_}
+use Prim.Native.Nat.{ℕ, _+_, _-_, _*_, _<_}
 use native.Mathlib.Numerals.{add-one}
 use native.Mathlib.Omega.{arith}
-use mathlib.Core.Path.{_≡_, refl, sym, ap, _∙_, subst}
+use mathlib.Core.Path.{_≡_, sym, ap, _∙_}
 use mathlib.Core.Bool.{Bool, true, false, cond, _||_}
 use mathlib.Core.List.{List, map}
-use mathlib.Core.Option.{Option, none, some}
+use mathlib.Core.Option.{some}
 use lib.Dec.{ltb}
 use lib.ListN.{length, take, drop, length-map}
 use Rattle.paper.specs.Refusals.{tablesApart}
 use Rattle.paper.specs.Lists.{any}
-use Rattle.paper.specs.Rows.Lookup.{Looked, gives, refuses}
+use Rattle.paper.specs.Rows.Lookup.{gives, refuses}
 use Rattle.paper.specs.Rows.Numbers.{nameSlotsOf, nameIn, pastStore, lowestNamed, findName}
 use Rattle.paper.specs.Tables.Layout.{pieces, nameSlotOf, nameSlotSize}
 use Rattle.paper.proofs.Apart.{zero-one}

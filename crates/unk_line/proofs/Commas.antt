@@ -1,14 +1,13 @@
 -- The fields of a line by the places of its commas. What a cut leaves behind its first piece is the cut of what stands behind the separator.
 -- Assumes nothing.
 use Prim.Native.Nat.{ℕ, suc, _+_, _-_, _≤_, _<_}
-use native.Mathlib.Numerals.{add-one}
 use native.Mathlib.Omega.{arith}
 use native.Mathlib.Decide.{decLe}
 use mathlib.Core.Path.{_≡_, refl, sym, ap, ap₂, _∙_}
 use mathlib.Core.Bool.{Bool, true, false, cond}
 use mathlib.Core.List.{List, [], _∷_}
-use lib.ListN.{length, take, drop, length-drop, length-take}
-use lib.Seq.{drop-drop, length-take-le, take-take}
+use lib.ListN.{length, take, drop}
+use lib.Seq.{drop-drop, take-take}
 use Rattle.paper.specs.Sizes.{lineFields}
 use Rattle.paper.specs.Lists.{until, is, cut, push, joinWith}
 use Rattle.paper.specs.Text.Scalar.{comma}

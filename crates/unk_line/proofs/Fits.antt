@@ -15,7 +15,7 @@ use Rattle.paper.specs.Computed.ReadUnk.{UnkFound, entry, no-entry, unkLineOf, 
 use Rattle.paper.proofs.Apart.{zero-one, stops-entries}
 use Rattle.paper.proofs.Unk.Line.{unk-line}
 use Rattle.paper.proofs.Unk.Bad.{unk-bad-line, stops-same}
-use Rattle.unk_line.specs.Line.{SaysLine, SaysEntry, entryAt, joinedFields}
+use Rattle.unk_line.specs.Line.{SaysLine, entryAt, joinedFields}
 use Rattle.unk_line.specs.declared.UnkEntry.{UnkEntry}
 use Rattle.unk_line.specs.declared.UnkLine.{UnkLine}
 use Rattle.unk_line.specs.declared.UnkLine.the-variants as line

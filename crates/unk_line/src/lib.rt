@@ -5,14 +5,13 @@ use numeral::Signed;
 use paper::UNK_FIELDS;
 use paper::UNK_NUMBER;
 ghost use mathlib.Core.Path.{_≡_};
-ghost use Prim.Native.Nat.{ℕ, _+_, _≤_};
+ghost use Prim.Native.Nat.{_+_, _≤_};
 ghost use lib.ListN.{length, take, drop};
 ghost use Rattle.paper.specs.Lists.{until, is};
 ghost use Rattle.paper.specs.Computed.ReadUnk.{unkLineOf};
-ghost use Rattle.paper.specs.Tables.Lent.{patch};
 ghost use Rattle.numeral.specs.Asked.{Least};
 ghost use Rattle.numeral.specs.Said.{saidSigned};
-ghost use Rattle.unk_line.specs.Line.{SaysLine, storedFields, joinedFields};
+ghost use Rattle.unk_line.specs.Line.{SaysLine};
 ghost use Rattle.unk_line.specs.Asked.{FieldsAre, saidCost, keptCost, entryAnswer};
 
 const COMMA: u8 = b',';

@@ -1,6 +1,5 @@
 -- `batch::least` meets its contract: it never passes the room's length.
 -- Assumes nothing.
-use borrow.Author.Needs.{needs}
 use native.Mathlib.Omega.{arith}
 use Rattle.io.proofs.Counting.{counts}
 use Rattle.batch.proofs.least.Statement.{statement}

@@ -1,6 +1,5 @@
 -- `least` meets its contract: it never passes the number of boundaries lent.
 -- Assumes nothing.
-use borrow.Author.Needs.{needs}
 use native.Mathlib.Omega.{arith}
 use Rattle.io.proofs.Counting.{counts}
 use Rattle.by_row.proofs.least.Statement.{statement}

@@ -1,6 +1,6 @@
 -- `entry::append_range` meets its contract: four writes are one patch by the entry's bytes.
 -- Assumes nothing.
-use Rattle.entry.proofs.Entered.{four-puts}
+use Rattle.paper.proofs.Tables.Append.{four-puts}
 use borrow.Author.Needs.{needs}
 use Rattle.entry.proofs.append_range.Statement.{statement}
 use Rattle.entry.proofs.append_range.Tie as tie

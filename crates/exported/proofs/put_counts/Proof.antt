@@ -1,6 +1,6 @@
 -- `exported::put_counts` meets its contract: five numbers one behind another. Assumes nothing.
 use native.Mathlib.Omega.{arith}
-use mathlib.Core.Path.{sym, ap, _∙_}
+use mathlib.Core.Path.{ap, _∙_}
 use Rattle.paper.specs.Numbers.Bytes.{le}
 use Rattle.paper.specs.Tables.Lent.{patch}
 use Rattle.exported.proofs.Given.{count-patches}

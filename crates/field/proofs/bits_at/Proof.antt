@@ -1,7 +1,7 @@
 -- `field::bits_at` meets its contract. Assumes nothing.
 use borrow.Author.Needs.{needs}
 use native.Mathlib.Omega.{arith}
-use mathlib.Core.Path.{_≡_, ap, sym, _∙_}
+use mathlib.Core.Path.{ap, sym, _∙_}
 use Prim.Native.Nat.{ℕ, _-_, _/_, _%_, _^_}
 use Rattle.field.proofs.Window.{window, mask-is, masked, masked-lt}
 use Rattle.field.proofs.bits_at.Statement.{statement}

@@ -1,6 +1,5 @@
 -- `pack_head::last_counts` meets its contract. Assumes nothing.
 use native.Mathlib.Omega.{arith}
-use Rattle.paper.specs.Sizes.{maxRanges}
 use Rattle.paper.specs.Pack.Fields.{rangesWidth}
 use Rattle.pack_head.proofs.Counting.{within, last-stop, last-stop-2, last-read}
 use borrow.Author.Needs.{needs}

@@ -1,6 +1,5 @@
 -- `pack_head::read_counts` meets its contract. Assumes nothing.
 use native.Mathlib.Omega.{arith}
-use Rattle.paper.specs.Sizes.{maxCategories, maxCategoryLines}
 use Rattle.paper.specs.Pack.Fields.{categoriesWidth, linesWidth}
 use Rattle.pack_head.proofs.Counting.{within, first-stop, first-stop-2, first-read}
 use borrow.Author.Needs.{needs}

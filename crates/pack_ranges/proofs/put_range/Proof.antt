@@ -1,6 +1,6 @@
 -- `pack_ranges::put_range` meets its contract. Assumes nothing.
 use native.Mathlib.Omega.{arith}
-use Rattle.pack_ranges.proofs.Ranging.{four-puts}
+use Rattle.paper.proofs.Tables.Append.{four-puts}
 use borrow.Author.Needs.{needs}
 use Rattle.pack_ranges.proofs.put_range.Statement.{statement}
 use Rattle.pack_ranges.proofs.put_range.Tie as tie

@@ -24,9 +24,6 @@ use Rattle.paper.proofs.CharDef.Sound.{line-sound}
 
 -- ---- lists
 
-joined-snoc : {A B : Type 0} (f : A → List B) (s : List A) (x : A) → joined (map f (s ++ (x ∷ []))) ≡ joined (map f s) ++ f x
-joined-snoc f s x = joined-map f s (x ∷ []) ∙ ap (λ l. joined (map f s) ++ l) (append-nil (f x))
-
 bytes-append : (s t : List (List ℕ)) → nameBytes (s ++ t) ≡ nameBytes s + nameBytes t
 unfolding nameBytes
 bytes-append s t = ap sum (map-append length s t) ∙ sum-append (map length s) (map length t)

@@ -6,7 +6,7 @@ use native.Mathlib.Omega.{arith}
 use native.Mathlib.Decide.{ℕ-discrete}
 use mathlib.Core.Path.{_≡_, refl, sym, ap, _∙_, subst}
 use mathlib.Core.Bool.{Bool, true, false, not, cond, _&&_, _||_}
-use mathlib.Core.List.{List, [], _∷_, _++_, map, append-assoc}
+use mathlib.Core.List.{List, [], _∷_, _++_, map, append-assoc, append-nil}
 use lib.Dec.{T, eqb, eqb→eq}
 use lib.ListN.{length, length-append}
 use mir.Facts.{and-yes, yes-and, not-T}
@@ -27,6 +27,14 @@ true→T false e = subst T (sym e) tt
 pub false→T : (b : Bool) → b ≡ false → T (not b)
 false→T true e = subst (λ b. T (not b)) (sym e) tt
 false→T false e = tt
+
+pub or-true : (b : Bool) → (b || true) ≡ true
+or-true true = refl
+or-true false = refl
+
+pub and-false : (b : Bool) → (b && false) ≡ false
+and-false true = refl
+and-false false = refl
 
 pub or-left : (a b : Bool) → T a → T (a || b)
 or-left true b t = tt
@@ -156,8 +164,14 @@ pub joined-append : {A : Type 0} (s t : List (List A)) → joined (s ++ t) ≡ j
 joined-append [] t = refl
 joined-append (x ∷ s) t = ap (λ l. x ++ l) (joined-append s t) ∙ sym (append-assoc x (joined s) (joined t))
 
+pub joined-snoc : {A : Type 0} (ls : List (List A)) (l : List A) → joined (ls ++ (l ∷ [])) ≡ joined ls ++ l
+joined-snoc ls l = joined-append ls (l ∷ []) ∙ ap (λ s. joined ls ++ s) (append-nil l)
+
 pub joined-map : {A B : Type 0} (f : A → List B) (s t : List A) → joined (map f (s ++ t)) ≡ joined (map f s) ++ joined (map f t)
 joined-map f s t = ap joined (map-append f s t) ∙ joined-append (map f s) (map f t)
+
+pub joined-map-snoc : {A B : Type 0} (f : A → List B) (s : List A) (x : A) → joined (map f (s ++ (x ∷ []))) ≡ joined (map f s) ++ f x
+joined-map-snoc f s x = joined-map f s (x ∷ []) ∙ ap (λ l. joined (map f s) ++ l) (append-nil (f x))
 
 pub sum-append : (s t : List ℕ) → sum (s ++ t) ≡ sum s + sum t
 sum-append [] t = omega arith

@@ -6,7 +6,7 @@ use Prim.Native.Nat.{ℕ, zero, suc, _+_, _<_, _≤_}
 use native.Mathlib.Nat.{le-of-suc-le-suc, not-suc-le-zero}
 use native.Mathlib.Omega.{arith}
 use mathlib.Core.Path.{_≡_, refl, sym, ap, _∙_, subst}
-use mathlib.Core.Bool.{Bool, true, false, not, cond, _&&_, _||_}
+use mathlib.Core.Bool.{Bool, true, false, not, cond, _||_}
 use mathlib.Core.List.{List, [], _∷_, map}
 use mathlib.Core.Option.{some}
 use lib.Dec.{T, ltb}
@@ -20,7 +20,7 @@ use Rattle.paper.specs.CharDef.Reading.{Reading}
 use Rattle.paper.specs.Rows.Covering.{boundaries, categoriesAt, rows}
 use Rattle.paper.specs.Rows.Flat.{RowFound, entryOffset, entryLength, offsetOf, flatEntry, entryPart, shortRows, flatPool}
 use Rattle.paper.specs.Rows.Lookup.{Looked, gives, LookupTables, Part, content, usesFlat, flatPart, rowPart, indexOdd, fromZero, rowMissing, pastPool, apart, Looks, packedAt, StartsWith, RowsLeft, FlatLeft, AsBuilt, without-flat, with-flat, GivesPart}
-use Rattle.paper.proofs.Lists.Facts.{T→true, true→T, joined-length, offsets-length}
+use Rattle.paper.proofs.Lists.Facts.{T→true, true→T, or-true, and-false, joined-length, offsets-length}
 use Rattle.paper.proofs.Lists.Parts.{take-part}
 use Rattle.paper.proofs.Rows.Boundaries.{row-for-each}
 use Rattle.paper.proofs.Rows.Search.{from-zero, found-row}
@@ -163,10 +163,6 @@ module _ (r : Reading) (t : LookupTables) (left : FlatLeft r t) where
   index-even : indexOdd t ≡ false
   unfolding indexOdd
   index-even = rw (eq-eqb (length (t .index)) bmpSize entries, or-true (empty (t .index)))
-    where
-      or-true : (b : Bool) → (b || true) ≡ true
-      or-true true = refl
-      or-true false = refl
 
   index-some : empty (t .index) ≡ false
   index-some = go (t .index) (omega (arith, entries))
@@ -184,10 +180,6 @@ module _ (r : Reading) (t : LookupTables) (left : FlatLeft r t) where
 pub looked-up : (r : Reading) (t : LookupTables) (c : ℕ) (a : Looked Part) → AsBuilt r t → IsScalar c → Looks t c a → GivesPart t (categoriesAt r c) a
 unfolding indexOdd usesFlat
 looked-up r t c a (without-flat left e) s l = by-rows r t c s a left (rw e) (rw e (and-false (ltb c bmpSize))) l
-  where
-    and-false : (b : Bool) → (b && false) ≡ false
-    and-false true = refl
-    and-false false = refl
 looked-up r t c a (with-flat left flat) s l = go (ltb c bmpSize) refl
   where
     uses : (b : Bool) → ltb c bmpSize ≡ b → usesFlat t c ≡ b

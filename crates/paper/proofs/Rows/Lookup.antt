@@ -6,7 +6,7 @@ use native.Mathlib.Nat.{le-of-suc-le-suc, not-suc-le-zero}
 use native.Mathlib.Omega.{arith}
 use mathlib.Core.Path.{_≡_, refl, sym, ap, _∙_, subst}
 use mathlib.Core.Logic.{_↔_}
-use mathlib.Core.Bool.{Bool, true, false, not, cond, _&&_, _||_}
+use mathlib.Core.Bool.{Bool, true, false, not, cond, _&&_}
 use mathlib.Core.List.{List, [], _∷_}
 use mathlib.Core.Option.{none, some}
 use lib.Dec.{T, leb, ltb, eqb}
@@ -20,7 +20,7 @@ use Rattle.paper.specs.Rows.Covering.{rising}
 use Rattle.paper.specs.Rows.Flat.{RowFound, entryOffset, entryLength}
 use Rattle.paper.specs.Rows.Lookup.{Looked, gives, refuses, LookupTables, ofFlat, Part, usesFlat, flatPart, rowPart, indexOdd, fromZero, apart, lookup, Looks, packedAt}
 use Rattle.paper.proofs.Apart.{zero-one, refuses-gives}
-use Rattle.paper.proofs.Lists.Facts.{T→true, T→false, true→T}
+use Rattle.paper.proofs.Lists.Facts.{T→true, T→false, true→T, or-true}
 use Rattle.paper.proofs.Rows.Boundaries.{from-rising}
 use Rattle.paper.proofs.Rows.Search.{found-one, found-later}
 
@@ -48,10 +48,6 @@ apart-exactly t c i = (to (isScalar c) (apart t c i), λ (s, h). rw (T→true (i
         never e = let q : notScalar ≡ tablesApart = cc in omega arith
 
 -- ---- one answer
-
-or-true : (b : Bool) → (b || true) ≡ true
-or-true true = refl
-or-true false = refl
 
 unused-flat : (t : LookupTables) (c i j : ℕ) → usesFlat t c ≡ true → lookup t c i ≡ lookup t c j
 unfolding lookup

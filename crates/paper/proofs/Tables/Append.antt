@@ -34,7 +34,21 @@ patch-patch at k p q l e h =
     ∙ sym (sets-append p q l at)
     ∙ patch-in at (p ++ q) l i
 
+-- four numbers of two bytes, written one after another
+pub four-puts : (at a b c d : ℕ) (l l₁ l₂ l₃ l₄ : List ℕ) → at + 8 ≤ length l
+    → l₁ ≡ patch at (le 2 a) l → l₂ ≡ patch (at + 2) (le 2 b) l₁ → l₃ ≡ patch (at + 4) (le 2 c) l₂ → l₄ ≡ patch (at + 6) (le 2 d) l₃
+    → l₄ ≡ patch at (le 2 a ++ le 2 b ++ le 2 c ++ le 2 d) l
+four-puts at a b c d l l₁ l₂ l₃ l₄ h p q r s =
+    s ∙ ap (patch (at + 6) (le 2 d)) (r ∙ ap (patch (at + 4) (le 2 c)) (q ∙ ap (patch (at + 2) (le 2 b)) p
+    ∙ patch-patch at (at + 2) (le 2 a) (le 2 b) l refl (omega arith))
+    ∙ patch-patch at (at + 4) (le 2 a ++ le 2 b) (le 2 c) l refl (omega arith))
+    ∙ patch-patch at (at + 6) (le 2 a ++ le 2 b ++ le 2 c) (le 2 d) l refl (omega arith)
+
 -- ---- padded tables
+
+pub padded-none : (n : ℕ) → replicate n 0 ≡ padded n []
+unfolding padded
+padded-none n = let e : n ≡ n - 0 = omega arith in ap (λ (k : ℕ). replicate {A = ℕ} k 0) e
 
 replicate-drop : (n k : ℕ) → _≡_ {A = List ℕ} (drop k (replicate n 0)) (replicate (n - k) 0)
 replicate-drop n zero = let e : n ≡ n - 0 = omega arith in ap (λ (m : ℕ). replicate {A = ℕ} m 0) e

@@ -13,7 +13,7 @@ use mir.Facts.{and-yes, yes-and, ltb-yes, yes-eqb}
 use borrow.Author.Tests.{le-leb, lt-leb, leb-true}
 use Rattle.paper.specs.Lists.{all, joined}
 use Rattle.paper.specs.Numbers.Bytes.{isByte, le, value}
-use Rattle.paper.specs.Tables.Layout.{pieces}
+use Rattle.paper.specs.Tables.Layout.{referenceSize, pieces}
 use Rattle.paper.specs.Tables.Lent.{num, got, patch}
 
 -- ---- numbers
@@ -139,6 +139,19 @@ pub pieces-length : (w n : ℕ) (l : List ℕ) → length (pieces w n l) ≡ n
 unfolding pieces
 pieces-length w zero l = refl
 pieces-length w (suc n) l = ap suc (pieces-length w n (drop w l))
+
+-- a part of the references
+pub part-numbers : (n k i : ℕ) (l : List ℕ) → i + k ≤ n
+    → take k (drop i (map (num referenceSize 0) (pieces referenceSize n l))) ≡ map (num referenceSize 0) (pieces referenceSize k (drop (referenceSize * i) l))
+unfolding pieces
+part-numbers n zero zero l h = refl
+part-numbers zero (suc k) zero l h = absurd (omega arith)
+part-numbers (suc n) (suc k) zero l h = ap (λ m. num referenceSize 0 (take referenceSize l) ∷ m) (part-numbers n k zero (drop referenceSize l) (omega arith))
+part-numbers zero k (suc i) l h = absurd (omega arith)
+part-numbers (suc n) k (suc i) l h =
+    let e : referenceSize + referenceSize * i ≡ referenceSize * suc i = omega arith in
+    part-numbers n k i (drop referenceSize l) (omega arith)
+    ∙ ap (λ m. map (num referenceSize 0) (pieces referenceSize k m)) (drop-drop (referenceSize * i) referenceSize l ∙ ap (λ m. drop m l) e)
 
 pub joined-pieces : (w n : ℕ) (l : List ℕ) → joined (pieces w n l) ≡ take (w * n) l
 unfolding pieces

@@ -17,10 +17,10 @@ use Rattle.paper.proofs.Tables.Laws.{table-length}
 use Rattle.paper.proofs.Tables.Trip.{tables-is, handed-in, places-length, rows-length, numbers-length, wide-place, wide-definition, wide-row, wide-number}
 
 -- the zero bytes behind l: shut, so that nothing counts them out
-zeros : ℕ → List ℕ → List ℕ
+pub zeros : ℕ → List ℕ → List ℕ
 zeros n l = replicate (n - length l) 0
 
-padded-is : (n : ℕ) (l : List ℕ) → padded n l ≡ l ++ zeros n l
+pub padded-is : (n : ℕ) (l : List ℕ) → padded n l ≡ l ++ zeros n l
 unfolding padded zeros
 padded-is n l = refl
 

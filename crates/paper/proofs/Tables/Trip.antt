@@ -563,7 +563,7 @@ all-both p q (x ∷ l) s t =
     let b = and-yes (q x) (all q l) t in
     yes-and (p x && q x) _ (yes-and (p x) (q x) (a .0) (b .0)) (all-both p q l (a .1) (b .1))
 
-counts-is : (n : Counts) (a b c d e : ℕ) → a ≡ n .categories → b ≡ n .definitions → c ≡ n .ranges → d ≡ n .references → e ≡ n .bytes
+pub counts-is : (n : Counts) (a b c d e : ℕ) → a ≡ n .categories → b ≡ n .definitions → c ≡ n .ranges → d ≡ n .references → e ≡ n .bytes
     → _≡_ {A = Counts} (record { categories = a; definitions = b; ranges = c; references = d; bytes = e }) n
 counts-is n a b c d e f g h i j = rw (f, g, h, i, j)
 

@@ -1,5 +1,4 @@
 -- `unk::parse_unk` meets its contract: each way through is an answer of `Whole`; the parts that are lent have the sizes. Assumes nothing.
-use native.Mathlib.Omega.{arith}
 use denote.Ref.{now}
 use Rattle.paper.specs.Sizes.{maxDetailBytes}
 use Rattle.paper.specs.Tables.Layout.{Tables}

@@ -1,5 +1,4 @@
 -- `unk::read_lines` meets its contract: tables of the sizes are zero before the walk, and again where it stops. Assumes nothing.
-use native.Mathlib.Omega.{arith}
 use mathlib.Core.Path.{_∙_}
 use Rattle.unk.proofs.Room.{cleared-sized}
 use borrow.Author.Needs.{needs}

@@ -1,6 +1,5 @@
 -- `unk_enter::mark_of` meets its contract: what is found among the names, case by case. Assumes nothing.
 use native.Mathlib.Omega.{arith}
-use denote.Ref.{now}
 use Rattle.unk_enter.proofs.Marks.{mark-below, mark-category, mark-absent, mark-refused}
 use borrow.Author.Needs.{needs}
 use Rattle.unk_enter.proofs.mark_of.Statement.{statement}

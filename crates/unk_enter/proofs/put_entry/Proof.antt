@@ -1,5 +1,5 @@
 -- `unk_enter::put_entry` meets its contract: four writes are one patch by the entry's bytes. Assumes nothing.
-use Rattle.unk_enter.proofs.Patches.{four-puts}
+use Rattle.unk_enter.proofs.Patches.{word-put}
 use borrow.Author.Needs.{needs}
 use Rattle.unk_enter.proofs.put_entry.Statement.{statement}
 use Rattle.unk_enter.proofs.put_entry.Tie as tie
@@ -32,7 +32,7 @@ same-length : tie.Need-same-length
 same-length c = search needs
 
 returns : tie.Need-returns
-returns c = four-puts _ _ _ _ _ _ _ _ _ _ ((c .before .before .before .before .before .before .before .before .before .before .before .before .before .before .before .before .before .pre)) ((c .before .before .before .before .before .before .before .before .before .before .before .before .before .before .put-u16 .ensures)) ((c .before .before .before .before .before .before .before .before .before .before .put-u162 .ensures)) ((c .before .before .before .before .before .before .put-u163 .ensures)) ((c .before .before .put-u164 .ensures))
+returns c = word-put _ _ _ _ _ _ _ _ _ _ ((c .before .before .before .before .before .before .before .before .before .before .before .before .before .before .before .before .before .pre)) ((c .before .before .before .before .before .before .before .before .before .before .before .before .before .before .put-u16 .ensures)) ((c .before .before .before .before .before .before .before .before .before .before .put-u162 .ensures)) ((c .before .before .before .before .before .before .put-u163 .ensures)) ((c .before .before .put-u164 .ensures))
 
 pub put-entry-spec : {M : Type 1} → statement M
 put-entry-spec =

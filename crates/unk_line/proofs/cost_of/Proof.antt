@@ -1,6 +1,5 @@
 -- `unk_line::cost_of` meets its contract, case by case. Assumes nothing.
 use borrow.Author.Needs.{needs}
-use mathlib.Core.Path.{refl, _∙_}
 use Rattle.paper.specs.Numbers.Numeral.{wrap16}
 use Rattle.unk_line.proofs.Read.{same-cost}
 use Rattle.unk_line.proofs.cost_of.Statement.{statement}

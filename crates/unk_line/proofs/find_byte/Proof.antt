@@ -1,6 +1,5 @@
 -- `unk_line::find_byte` meets its contract: the loop keeps `Seeking`, up to the end of the part or of the text. Assumes nothing.
 use Prim.Native.Nat.{_-_}
-use mathlib.Core.Path.{_∙_}
 use native.Mathlib.Omega.{arith}
 use denote.Ref.{now}
 use borrow.Author.Needs.{needs}
