@@ -11,9 +11,10 @@ use Rattle.paper.specs.Computed.ReadText.{nothingRead}
 use Rattle.paper.specs.Tables.Layout.{Tables, layout, inRoom, countsOf, nameSlots, rangeSlots, nameSlotSize, definitionSize, rangeSlotSize, referenceSize}
 use Rattle.paper.specs.Tables.Lent.{padded}
 use Rattle.paper.specs.declared.Counts.{Counts}
-use Rattle.paper.proofs.Tables.Append.{padded-none, padded-length}
+use Rattle.paper.proofs.Tables.Append.{padded-length}
 use Rattle.paper.proofs.Tables.Trip.{tables-is, counts-is}
-use Rattle.slot.specs.Slots.{written}
+use Rattle.slot.specs.Slots.{slotPlaces, written}
+use Rattle.slot.proofs.More.{none-laid}
 use Rattle.slot.proofs.Written.{written-room}
 use Rattle.entry.specs.Steps.{Memory, Held}
 use Rattle.room.specs.Sized.{noTables, AcceptedInto}
@@ -22,14 +23,14 @@ use Rattle.lines.specs.Lines.{WalkEnded}
 -- ---- before
 
 -- zero memory of the sizes holds nothing
-held-nothing : (a b c d e : List ℕ) → a ≡ padded maxNameBytes [] → b ≡ replicate maxCategories 0 → c ≡ padded (definitionSize * maxCategoryLines) []
+held-nothing : (a b c d e : List ℕ) → a ≡ padded maxNameBytes [] → b ≡ replicate slotPlaces 0 → c ≡ padded (definitionSize * maxCategoryLines) []
     → d ≡ padded (rangeSlotSize * maxRanges) [] → e ≡ padded (referenceSize * maxReferences) []
     → Held nothingRead (record { store = a; slots = b; definitions = c; ranges = d; references = e })
     (record { categories = 0; definitions = 0; ranges = 0; references = 0; bytes = 0 })
 unfolding nothingRead nameBytes references nameSlots rangeSlots
 held-nothing a b c d e p q r s t =
     record {
-      names = record { count-is = refl; bytes-is = refl; few = omega arith; short = omega arith; stored = p; slotted = q ∙ padded-none maxCategories };
+      names = none-laid a b p q;
       definitions-few = omega arith;
       definitions-are = refl;
       in-definitions = r;
@@ -63,7 +64,7 @@ module _ {t : Tables} (e : t ≡ inRoom noTables) where
   references-zero = ap (λ u. u .references) e
 
   -- zero tables and zero slots hold nothing
-  pub fill-start : (slots : List ℕ) → slots ≡ replicate maxCategories 0
+  pub fill-start : (slots : List ℕ) → slots ≡ replicate slotPlaces 0
       → Held nothingRead (record { store = t .names; slots = slots; definitions = t .definitions; ranges = t .ranges; references = t .references })
       (record { categories = 0; definitions = 0; ranges = 0; references = 0; bytes = 0 })
   fill-start slots s = held-nothing (t .names) slots (t .definitions) (t .ranges) (t .references) names-zero s definitions-zero ranges-zero references-zero

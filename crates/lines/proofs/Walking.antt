@@ -5,21 +5,22 @@ use native.Mathlib.Numerals.{add-one}
 use native.Mathlib.Omega.{arith}
 use mathlib.Core.Path.{_≡_, sym, ap, _∙_}
 use mathlib.Core.List.{List, map}
-use lib.ListN.{length, take, drop, length-map}
-use Rattle.paper.specs.Sizes.{maxTextBytes, maxCategories, maxNameBytes, maxCategoryLines, maxRanges, maxReferences}
+use lib.ListN.{length, take, drop}
+use Rattle.paper.specs.Sizes.{maxTextBytes, maxNameBytes, maxCategoryLines, maxRanges, maxReferences}
 use Rattle.paper.specs.Lists.{joined, until}
 use Rattle.paper.specs.Numbers.Bytes.{le}
 use Rattle.paper.specs.CharDef.Reading.{Reading, refused, nameBytes, isLF}
 use Rattle.paper.specs.Computed.ReadText.{stop, afterLine, nothingRead}
-use Rattle.paper.specs.Tables.Layout.{nameSlots, rangeSlots, definitionBytes, slotBytes, numbersOf, definitionSize, rangeSlotSize, referenceSize}
+use Rattle.paper.specs.Tables.Layout.{rangeSlots, definitionBytes, slotBytes, numbersOf, definitionSize, rangeSlotSize, referenceSize}
 use Rattle.paper.specs.declared.Counts.{Counts}
 use Rattle.paper.proofs.Lists.Facts.{joined-length}
 use Rattle.paper.proofs.Tables.Append.{padded-length}
 use Rattle.paper.proofs.Tables.Laws.{table-length}
-use Rattle.paper.proofs.Tables.Trip.{places-length, rows-length, numbers-length, wide-definition, wide-row, wide-number}
+use Rattle.paper.proofs.Tables.Trip.{rows-length, numbers-length, wide-definition, wide-row, wide-number}
 use Rattle.scan.specs.Asked.{Inside}
 use Rattle.line.specs.Bytes.{lineBytes}
-use Rattle.slot.specs.Slots.{slotWord}
+use Rattle.slot.specs.Slots.{slotPlaces}
+use Rattle.slot.proofs.Laid as laid
 use Rattle.entry.specs.Steps.{Memory, Held, Working, Went, enterFoundBytes}
 use Rattle.lines.specs.Lines.{readBytes, readAll, linesFrom, WalkEnded}
 use Rattle.lines.proofs.Scan.{lines-all, lines-none, lines-next, end-inside}
@@ -36,14 +37,8 @@ module _ {r : Reading} {m : Memory} {c : Counts} (z : Held r m c) where
       let d = l .bytes-is in
       ap length (l .stored) ∙ padded-length maxNameBytes (joined (r .names)) (omega arith)
 
-  pub slots-long : length (m .slots) ≡ maxCategories
-  slots-long =
-      let l = z .names in
-      let a : length (map slotWord (nameSlots 0 (map length (r .names)))) ≡ length (r .names)
-      = length-map (nameSlots 0 (map length (r .names))) slotWord ∙ places-length 0 (map length (r .names)) ∙ length-map (r .names) length in
-      let b = l .few in
-      let d = l .count-is in
-      ap length (l .slotted) ∙ padded-length maxCategories (map slotWord (nameSlots 0 (map length (r .names)))) (omega arith)
+  pub slots-long : length (m .slots) ≡ slotPlaces
+  slots-long = laid.slots-long (z .names)
 
   pub definitions-long : length (m .definitions) ≡ definitionSize * maxCategoryLines
   definitions-long =

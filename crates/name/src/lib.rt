@@ -4,13 +4,10 @@ use paper::MAX_CATEGORIES;
 use paper::MAX_NAME_BYTES;
 use paper::NAME_BYTES_FULL;
 use seek::Found;
-use slot::SLOT_UNIT;
 ghost use mathlib.Core.Path.{_≡_};
-ghost use Prim.Native.Nat.{_+_, _*_, _-_, _≤_};
+ghost use Prim.Native.Nat.{_+_, _-_, _≤_};
 ghost use lib.ListN.{length, take, drop};
-ghost use Rattle.paper.specs.Sizes.{maxNameBytes};
 ghost use Rattle.paper.specs.Tables.Lent.{patch};
-ghost use Rattle.slot.specs.Slots.{slotUnit};
 ghost use Rattle.name.specs.Names.{Room, Enters};
 
 // A name's number, and how many names and name bytes there are with it.
@@ -24,13 +21,6 @@ pub struct Numbered {
 pub enum Entry {
     Number(Numbered),
     Full(u32),
-}
-
-fn slot_of(start: usize, len: usize) -> u32
-    requires { ⌜ (start ≤ maxNameBytes) × (len ≤ maxNameBytes) ⌝ }
-    ensures { λ r. ⌜ r ≡ start * slotUnit + len ⌝ }
-{
-    (start * (SLOT_UNIT as usize) + len) as u32
 }
 
 // Copies the text from `start` to `end` into the store.
@@ -75,7 +65,7 @@ pub fn category_id(
                 return Entry::Full(NAME_BYTES_FULL);
             }
             copy_in(names, bytes, text, start, end);
-            slots[count] = slot_of(bytes, len);
+            slot::add_slot(slots, count, bytes, text, start, end);
             let next = count + 1;
             Entry::Number(Numbered {
                 number: count,

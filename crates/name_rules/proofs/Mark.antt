@@ -1,37 +1,19 @@
--- Marks: the loop that makes one, a table of them that is filled, and that names of different marks are different names.
+-- Marks: a table of them that is filled, and that names of different marks are different names.
 -- Assumes nothing.
-use Prim.Native.Nat.{ℕ, suc, _+_, _*_, _%_, _≤_, _<_}
+use Prim.Native.Nat.{ℕ, _+_, _<_}
 use native.Mathlib.Decide.{ℕ-discrete}
-use native.Mathlib.Numerals.{add-one}
 use native.Mathlib.Omega.{arith}
-use mathlib.Core.Path.{_≡_, refl, sym, ap, _∙_}
+use mathlib.Core.Path.{_≡_, sym, ap, _∙_}
 use mathlib.Core.Bool.{false}
 use mathlib.Core.List.{List}
-use lib.ListN.{length, drop, getD, set, drop-of-length-le}
-use lib.Seq.{drop-cons, getD-set-same, getD-set-other}
+use lib.ListN.{length, getD, set}
+use lib.Seq.{getD-set-same, getD-set-other}
 use Rattle.paper.specs.Lists.{same}
 use Rattle.paper.proofs.Lists.Seen.{same-eq}
 use Rattle.name_rules.specs.Placed.{nameOf}
-use Rattle.name_rules.specs.Mark.{marks, factor, markAfter, mark, Marked}
+use Rattle.mark.specs.Mark.{mark}
+use Rattle.name_rules.specs.Marked.{Marked}
 use Rattle.table_rules.proofs.Tests.{untrue}
-
--- ---- one mark
-
-pub mark-begins : (l : List ℕ) → markAfter 0 (drop 0 l) ≡ mark l
-unfolding mark
-mark-begins l = refl
-
-module _ (l : List ℕ) (i h v : ℕ) (inv : markAfter h (drop i l) ≡ v) where
-  pub mark-goes : (b : ℕ) → i < length l → b ≡ getD l i 0 → markAfter ((h * factor + b) % marks) (drop (i + 1) l) ≡ v
-  unfolding markAfter
-  mark-goes b lt e =
-      ap (λ k. markAfter ((h * factor + b) % marks) (drop k l)) (add-one i)
-      ∙ ap (λ x. markAfter ((h * factor + x) % marks) (drop (suc i) l)) e
-      ∙ ap (markAfter h) (sym (drop-cons l i 0 lt)) ∙ inv
-
-  pub mark-ends : length l ≤ i → h ≡ v
-  unfolding markAfter
-  mark-ends g = ap (markAfter h) (sym (drop-of-length-le l g)) ∙ inv
 
 -- ---- a table of marks
 

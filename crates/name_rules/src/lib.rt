@@ -11,12 +11,7 @@ ghost use Rattle.paper.specs.Lists.{all, any, same};
 ghost use Rattle.paper.specs.Computed.Rules.{formed};
 ghost use Rattle.paper.specs.Pack.Rules.{once};
 ghost use Rattle.name_rules.specs.Placed.{nameOf, placedNames};
-ghost use Rattle.name_rules.specs.Mark.{mark, Marked};
-
-// As specs/Mark.antt has them.
-const MARKS: u64 = 4294967296;
-
-const MARK_FACTOR: u64 = 16777619;
+ghost use Rattle.name_rules.specs.Marked.{Marked};
 
 // The name that slot i places; none where it runs past the store.
 fn name_at<'a>(names: &'a [u8], categories: &'a [u8], i: usize) -> &'a [u8]
@@ -71,26 +66,6 @@ fn is_same<'a>(a: &'a [u8], b: &'a [u8]) -> bool
     true
 }
 
-// A byte as a number to reckon with: the call asks only that the byte is there.
-fn wide(x: u8) -> u64
-    ensures { λ r. ⌜ (r ≡ x) × (r < 256) ⌝ }
-{
-    x as u64
-}
-
-// A number made of all bytes of a name: names that are the same have the same mark.
-pub fn mark_of(name: &[u8]) -> u32
-    ensures { λ r. ⌜ r ≡ mark (now (name .entry)) ⌝ }
-{
-    let mut h = 0u64;
-    let mut i = 0;
-    while i < name.len() {
-        h = (h * MARK_FACTOR + wide(name[i])) % MARKS;
-        i += 1;
-    }
-    h as u32
-}
-
 // The marks of the first n names.
 fn mark_names<'a>(names: &'a [u8], categories: &'a [u8], n: usize, marks: &mut [u32])
     requires { ⌜ (4 * n ≤ length (now categories)) × (n ≤ length (now marks)) ⌝ }
@@ -98,7 +73,7 @@ fn mark_names<'a>(names: &'a [u8], categories: &'a [u8], n: usize, marks: &mut [
 {
     let mut i = 0;
     while i < n {
-        marks[i] = mark_of(name_at(names, categories, i));
+        marks[i] = mark::mark_of(name_at(names, categories, i));
         i += 1;
     }
 }

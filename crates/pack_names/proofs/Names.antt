@@ -25,7 +25,8 @@ use Rattle.paper.proofs.Tables.Append.{patch-patch, patch-padded, padded-length
 use Rattle.paper.proofs.Tables.Room.{zeros, padded-is}
 use Rattle.paper.proofs.Tables.Trip.{places-length, wide-place}
 use Rattle.name_rules.specs.Placed.{placed, nameOf, placedNames}
-use Rattle.name_rules.specs.Mark.{mark, Marked}
+use Rattle.mark.specs.Mark.{mark}
+use Rattle.name_rules.specs.Marked.{Marked}
 use Rattle.name_rules.proofs.Placed.{placed-snoc}
 use Rattle.pack_names.specs.Names.{Store, Stored, Named, Naming}
 use Rattle.pack_field.proofs.Steps.{fails, passes}

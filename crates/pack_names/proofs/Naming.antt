@@ -17,7 +17,7 @@ use Rattle.paper.specs.Computed.ReadPack.{_▹_, give, settle, number, bytesFie
 use Rattle.paper.specs.Computed.Rules.{formed}
 use Rattle.paper.specs.Tables.Layout.{nameSlotBytes, nameSlotSize}
 use Rattle.paper.specs.Tables.Lent.{patch}
-use Rattle.name_rules.specs.Mark.{mark}
+use Rattle.mark.specs.Mark.{mark}
 use Rattle.name_rules.proofs.Once.{any-snoc}
 use Rattle.field.specs.Cursor.{rest, fieldAt, bytesFieldAt, CopiedTo}
 use Rattle.field.proofs.Promise.{run-on, run-size}

@@ -15,7 +15,7 @@ use Rattle.paper.specs.Computed.ReadPack.{bytesField, nameRule, readName}
 use Rattle.paper.specs.Tables.Layout.{nameSlotBytes, nameSlots, nameSlotSize}
 use Rattle.paper.specs.Tables.Lent.{padded}
 use Rattle.field.specs.Cursor.{rest}
-use Rattle.name_rules.specs.Mark.{mark}
+use Rattle.mark.specs.Mark.{mark}
 use Rattle.pack_field.specs.declared.CountRead.{CountRead}
 use Rattle.pack_field.specs.declared.CountRead.the-variants as count
 

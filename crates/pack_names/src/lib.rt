@@ -19,7 +19,7 @@ ghost use Rattle.paper.specs.Pack.Fields.{byteWidth, nameLengthWidth};
 ghost use Rattle.paper.specs.Computed.ReadPack.{readNames};
 ghost use Rattle.paper.specs.Tables.Layout.{nameSlotBytes, nameSlotSize};
 ghost use Rattle.paper.specs.Tables.Lent.{patch};
-ghost use Rattle.name_rules.specs.Mark.{mark};
+ghost use Rattle.mark.specs.Mark.{mark};
 ghost use Rattle.field.specs.Cursor.{rest};
 ghost use Rattle.pack_field.specs.Parts.{maxPlace};
 ghost use Rattle.pack_names.specs.Names.{Stored, Naming, KeptIs, TakesName, ReadsName, NamesAre};
@@ -41,7 +41,7 @@ fn place_name(
     table::put_u16(categories, at, start as u16);
     table::put_u16(categories, at + NAME_LENGTH_AT, len as u16);
     let end = start + len;
-    marks[i] = name_rules::mark_of(&names[start..end]);
+    marks[i] = mark::mark_of(&names[start..end]);
 }
 
 // The last of the names is well-formed UTF-8 and none of those before it.

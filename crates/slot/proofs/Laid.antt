@@ -1,25 +1,32 @@
--- A store and slots that hold names: each slot gives its name back, so a search of the slots is a search of the names.
+-- A store and slots that hold names: each slot gives its name back, so a search of the slots is a search of the names, and a hint that names
+-- the name sought is its number, since no name is there twice.
 -- Assumes nothing.
 use Prim.Native.Nat.{ℕ, zero, suc, _+_, _*_, _/_, _%_, _≤_, _<_}
 use native.Mathlib.Numerals.{add-one}
+use native.Mathlib.Decide.{ℕ-discrete}
 use native.Mathlib.Omega.{arith}
 use mathlib.Core.Path.{_≡_, refl, sym, ap, ap₂, _∙_}
-use mathlib.Core.Bool.{Bool, true, false}
+use mathlib.Core.Bool.{Bool, true, false, _||_}
 use mathlib.Core.List.{List, [], _∷_, _++_, map, append-assoc}
 use lib.ListN.{length, take, drop, getD, length-append, length-map, drop-of-length-le, List·getD-append}
+use lib.Dec.{eqb}
 use lib.Seq.{take-at, drop-at, drop-cons}
-use Rattle.paper.specs.Lists.{same, joined, sum}
+use borrow.Author.Tests.{eq-eqb, ne-eqb}
+use Rattle.paper.specs.Sizes.{maxCategories}
+use Rattle.paper.specs.Lists.{any, same, positionOf, joined, sum}
 use Rattle.paper.specs.CharDef.Reading.{nameBytes}
 use Rattle.paper.specs.Rows.Numbers.{nameIn}
 use Rattle.paper.specs.Tables.Layout.{nameSlots}
 use Rattle.paper.specs.Tables.Lent.{padded}
 use Rattle.paper.proofs.Apart.{true-false}
-use Rattle.paper.proofs.Lists.Facts.{T→true}
-use Rattle.paper.proofs.Lists.Seen.{same-refl}
+use Rattle.paper.proofs.Lists.Facts.{T→true, true→T, or-true}
+use Rattle.paper.proofs.Lists.Seen.{same-eq, same-refl}
+use Rattle.paper.proofs.Tables.Append.{padded-length}
 use Rattle.paper.proofs.Tables.Trip.{places-length}
 use Rattle.seek.specs.declared.Found.the-variants.{At, Nothing}
-use Rattle.slot.specs.Slots.{slotUnit, slotWord, wordSlot}
-use Rattle.slot.specs.Laid.{Laid, FindsIn}
+use Rattle.slot.specs.Slots.{slotUnit, slotWord, wordSlot, slotPlaces, hintsOf}
+use Rattle.slot.specs.Laid.{Laid, Tells, FindsIn}
+use Rattle.slot.proofs.Hints.{hints-length}
 use Rattle.seek.proofs.Compare.{unlike, differs}
 use Rattle.seek.proofs.Search.{Searching, search-start, search-hit, search-on, search-done}
 
@@ -56,19 +63,84 @@ each-says before (x ∷ names) rest (suc i) h lt =
     rw (append-assoc x (joined names) rest, ← append-assoc before x (joined names ++ rest), ← length-append before x)
     (each-says (before ++ x) names rest i (omega arith) (omega arith))
 
-module _ {names : List (List ℕ)} {store slots : List ℕ} {count bytes : ℕ} (z : Laid names store slots count bytes) (i : ℕ) (lt : i < count) where
-  slot-says : Says store (getD slots i 0) (getD names i [])
-  unfolding padded
-  slot-says =
-      let c = z .count-is in
-      let b = z .bytes-is in
-      let s = z .short in
-      let l = slots-length names in
-      let e : getD slots i 0 ≡ getD (map slotWord (nameSlots 0 (map length names))) i 0 =
-      ap (λ m. getD m i 0) (z .slotted) ∙ List·getD-append (map slotWord (nameSlots 0 (map length names))) _ 0 i (omega arith) in
-      rw (z .stored, e) (each-says [] names _ i (omega arith) (omega arith))
+module _ {names : List (List ℕ)} {store slots : List ℕ} {count bytes : ℕ} (z : Laid names store slots count bytes) where
+  words-few : length (map slotWord (nameSlots 0 (map length names))) ≤ maxCategories
+  words-few = let c = z .count-is in let f = z .few in omega (arith, slots-length names)
 
--- ---- a search of the slots
+  pub front-long : length (padded maxCategories (map slotWord (nameSlots 0 (map length names)))) ≡ maxCategories
+  front-long = padded-length maxCategories (map slotWord (nameSlots 0 (map length names))) words-few
+
+  pub slots-long : length slots ≡ slotPlaces
+  slots-long =
+      ap length (z .slotted) ∙ length-append (padded maxCategories (map slotWord (nameSlots 0 (map length names)))) (hintsOf names)
+      ∙ ap₂ (λ a b. a + b) front-long (hints-length names)
+
+  pub slots-front : take maxCategories slots ≡ padded maxCategories (map slotWord (nameSlots 0 (map length names)))
+  slots-front =
+      ap (take maxCategories) (z .slotted) ∙ take-at (padded maxCategories (map slotWord (nameSlots 0 (map length names)))) (hintsOf names) maxCategories front-long
+
+  module _ (i : ℕ) (lt : i < count) where
+    word-at : getD slots i 0 ≡ getD (map slotWord (nameSlots 0 (map length names))) i 0
+    unfolding padded
+    word-at =
+        let c = z .count-is in
+        let f = z .few in
+        let l = slots-length names in
+        ap (λ m. getD m i 0) (z .slotted)
+        ∙ List·getD-append (padded maxCategories (map slotWord (nameSlots 0 (map length names)))) (hintsOf names) 0 i (omega (arith, front-long))
+        ∙ List·getD-append (map slotWord (nameSlots 0 (map length names))) _ 0 i (omega arith)
+
+    slot-says : Says store (getD slots i 0) (getD names i [])
+    unfolding padded
+    slot-says =
+        let c = z .count-is in
+        let b = z .bytes-is in
+        let s = z .short in
+        rw (z .stored, word-at) (each-says [] names _ i (omega arith) (omega arith))
+
+-- ---- one name
+
+module _ (store slots n : List ℕ) (i : ℕ) where
+  -- bytes that are not there, as many as are sought: a name of that length is another one
+  pub tells-bytes : (at : ℕ) → at ≡ getD slots i 0 / slotUnit → (len : ℕ) → len ≡ length n → (r : Bool) → r ≡ same n (take len (drop at store)) → r ≡ false
+      → Tells store slots n i false
+  tells-bytes at a len whole r e h names count bytes z lt =
+      let s = slot-says z i lt in
+      unlike n (getD names i [])
+      (λ d.
+      let b : len ≡ getD slots i 0 % slotUnit = whole ∙ ap length d ∙ sym (s .long) in
+      true-false
+      (sym (T→true (same n n) (same-refl n)) ∙ ap (same n) d ∙ ap (same n) (sym (s .is)) ∙ sym (ap₂ (λ k m. same n (take k (drop m store))) b a)
+      ∙ sym e ∙ h))
+
+  -- bytes that are there, as many as are sought: its length decides
+  pub tells-length : (at : ℕ) → at ≡ getD slots i 0 / slotUnit → (len : ℕ) → len ≡ length n → (r : Bool) → r ≡ same n (take len (drop at store)) → r ≡ true
+      → (k : ℕ) → k ≡ getD slots i 0 % slotUnit → Tells store slots n i (eqb k len)
+  tells-length at a len whole r e h k f names count bytes z lt = go (ℕ-discrete k len)
+    where
+      s : Says store (getD slots i 0) (getD names i [])
+      s = slot-says z i lt
+
+      go : Dec (k ≡ len) → eqb k len ≡ same n (getD names i [])
+      go (yes d) =
+          eq-eqb k len d ∙ sym h ∙ e ∙ ap₂ (λ m j. same n (take m (drop j store))) (sym d ∙ f) a ∙ ap (same n) (s .is)
+      go (no d) = ne-eqb k len d ∙ differs n (getD names i []) (λ u. d (f ∙ s .long ∙ sym u ∙ sym whole))
+
+-- ---- a hint
+
+pub any-at : (n : List ℕ) (names : List (List ℕ)) (i : ℕ) → i < length names → same n (getD names i []) ≡ true → any (same n) names ≡ true
+any-at n [] i lt h = absurd (omega arith)
+any-at n (x ∷ names) zero lt h = ap (λ b. b || any (same n) names) h
+any-at n (x ∷ names) (suc i) lt h = ap (λ b. same n x || b) (any-at n names i (omega arith) h) ∙ or-true (same n x)
+
+pub hint-hit : (store slots n : List ℕ) (count i : ℕ) → i < count → (r : Bool) → Tells store slots n i r → r ≡ true → FindsIn store slots count n (At i)
+hint-hit store slots n count i lt r f h names bytes z =
+    let k : i < length names = omega (arith, z .count-is) in
+    let e : same n (getD names i []) ≡ true = sym (f names count bytes z lt) ∙ h in
+    let d : n ≡ getD names i [] = same-eq n (getD names i []) (true→T _ e) in
+    (any-at n names i k e, sym (ap (λ m. positionOf same m names) d ∙ z .single i k))
+
+-- ---- a search of all slots
 
 pub record Looking (store slots : List ℕ) (count : ℕ) (n : List ℕ) (i : ℕ) : Type 0 where
   pub upto : i ≤ count
@@ -83,32 +155,16 @@ module _ {store slots : List ℕ} {count : ℕ} {n : List ℕ} {i : ℕ} (l : Lo
       let k : length names ≤ i = omega (arith, z .count-is) in
       search-done (l .seen names bytes z) (drop-of-length-le names k)
 
-  module _ (lt : i < count) where
+  module _ (lt : i < count) (r : Bool) (f : Tells store slots n i r) where
     next : (names : List (List ℕ)) (bytes : ℕ) → Laid names store slots count bytes → drop i names ≡ getD names i [] ∷ drop (i + 1) names
     next names bytes z = drop-cons names i [] (omega (arith, z .count-is)) ∙ ap (λ k. getD names i [] ∷ drop k names) (sym (add-one i))
 
-    passed : ((names : List (List ℕ)) (bytes : ℕ) → Laid names store slots count bytes → false ≡ same n (getD names i [])) → Looking store slots count n (i + 1)
-    passed f = record { upto = omega arith; seen = λ names bytes z. search-on (l .seen names bytes z) _ _ (next names bytes z) (f names bytes z) }
+    pub look-hit : r ≡ true → FindsIn store slots count n (At i)
+    look-hit h names bytes z = search-hit (l .seen names bytes z) _ _ (next names bytes z) (sym h ∙ f names count bytes z lt)
 
-    -- a name of another length
-    pub look-other : (len : ℕ) → len ≡ getD slots i 0 % slotUnit → (len ≡ length n → ⊥) → Looking store slots count n (i + 1)
-    look-other len e h =
-        passed (λ names bytes z. differs n (getD names i []) (λ d. h (e ∙ slot-says z i lt .long ∙ sym d)))
-
-    module _ (at len : ℕ) (a : at ≡ getD slots i 0 / slotUnit) (b : len ≡ getD slots i 0 % slotUnit) where
-      is-name : (names : List (List ℕ)) (bytes : ℕ) → Laid names store slots count bytes → same n (take len (drop at store)) ≡ same n (getD names i [])
-      is-name names bytes z = ap₂ (λ k m. same n (take k (drop m store))) b a ∙ ap (same n) (slot-says z i lt .is)
-
-      pub look-hit : (r : Bool) → r ≡ same n (take len (drop at store)) → r ≡ true → FindsIn store slots count n (At i)
-      look-hit r e h names bytes z = search-hit (l .seen names bytes z) _ _ (next names bytes z) (sym h ∙ e ∙ is-name names bytes z)
-
-    -- other bytes at its place, as many as are sought: a name of that length is another one
-    pub look-on : (at len : ℕ) → at ≡ getD slots i 0 / slotUnit → len ≡ length n → (r : Bool) → r ≡ same n (take len (drop at store)) → r ≡ false
-        → Looking store slots count n (i + 1)
-    look-on at len a whole r e h =
-        passed
-        (λ names bytes z.
-        unlike n (getD names i [])
-        (λ d.
-        let b : len ≡ getD slots i 0 % slotUnit = whole ∙ ap length d ∙ sym (slot-says z i lt .long) in
-        true-false (sym (T→true (same n n) (same-refl n)) ∙ ap (same n) d ∙ sym (sym h ∙ e ∙ is-name at len a b names bytes z))))
+    pub look-on : r ≡ false → Looking store slots count n (i + 1)
+    look-on h =
+        record {
+          upto = omega arith;
+          seen = λ names bytes z. search-on (l .seen names bytes z) _ _ (next names bytes z) (sym h ∙ f names count bytes z lt);
+        }

@@ -9,7 +9,7 @@ use mathlib.Core.Bool.{cond}
 use mathlib.Core.List.{List, [], _∷_, _++_, map}
 use lib.Dec.{leb}
 use lib.ListN.{length, take, drop, getD, replicate}
-use lib.Seq.{length-take-le, take-suc, take-all}
+use lib.Seq.{length-take-le, take-suc}
 use borrow.Author.Tests.{le-leb, lt-leb}
 use Rattle.paper.specs.Sizes.{maxCategories}
 use Rattle.paper.specs.Lists.{joined, sum}
@@ -19,11 +19,11 @@ use Rattle.paper.specs.Tables.Layout.{nameSlotSize}
 use Rattle.paper.specs.Tables.Layout.{nameSlotBytes, nameSlots, layout, inRoom}
 use Rattle.paper.specs.Tables.Lent.{patch, padded}
 use Rattle.paper.proofs.Tables.Laws.{table-length, patch-in, patch-out, patch-length}
-use Rattle.paper.proofs.Tables.Append.{patch-patch, table-append, table-snoc, padded-length}
+use Rattle.paper.proofs.Tables.Append.{patch-patch, table-append, table-snoc}
 use Rattle.paper.proofs.Tables.Trip.{wide-place}
-use Rattle.slot.specs.Slots.{slotUnit, slotWord, wordSlot, written}
+use Rattle.slot.specs.Slots.{slotUnit, slotWord, wordSlot, slotPlaces, written}
 use Rattle.slot.specs.Laid.{Laid}
-use Rattle.slot.proofs.Laid.{slots-length}
+use Rattle.slot.proofs.Laid.{slots-length, slots-long, slots-front}
 
 abbrev entryBytes : ℕ → List ℕ
 entryBytes s = nameSlotBytes (wordSlot s)
@@ -145,9 +145,8 @@ written-room r store slots count bytes table z h =
     let b = z .bytes-is in
     let f = z .few in
     let s = z .short in
-    let n : length (map slotWord (nameSlots 0 (map length (r .names)))) ≤ maxCategories = omega (arith, slots-length (r .names)) in
-    let l : length slots ≡ maxCategories = ap length (z .slotted) ∙ padded-length maxCategories (map slotWord (nameSlots 0 (map length (r .names)))) n in
-    let a : take maxCategories slots ≡ padded maxCategories (map slotWord (nameSlots 0 (map length (r .names)))) = take-all maxCategories slots (omega arith) ∙ z .slotted in
+    let l : length slots ≡ slotPlaces = slots-long z in
+    let a = slots-front z in
     let e : joined (map entryBytes (take maxCategories slots)) ≡ padded (nameSlotSize * maxCategories) (joined (map nameSlotBytes (nameSlots 0 (map length (r .names))))) =
     ap (λ l. joined (map entryBytes l)) a ∙ all-entries maxCategories (r .names) (omega arith) (omega arith) in
     picked maxCategories (length slots) (patch 0 (joined (map entryBytes (take maxCategories slots))) table) table (omega arith)

@@ -3,7 +3,8 @@ use Prim.Native.Nat.{_≤_, _<_, _-_}
 use native.Mathlib.Omega.{arith}
 use mathlib.Core.Path.{_≡_, refl, ap, _∙_}
 use lib.ListN.{length, length-set}
-use Rattle.name_rules.specs.Mark.{mark, Marked}
+use Rattle.mark.specs.Mark.{mark}
+use Rattle.name_rules.specs.Marked.{Marked}
 use Rattle.name_rules.proofs.Mark.{marked-more}
 use Rattle.name_rules.proofs.mark_names.Statement.{statement}
 use Rattle.name_rules.proofs.mark_names.Tie as tie

@@ -3,7 +3,7 @@ use native.Mathlib.Omega.{arith}
 use Prim.Native.Nat.{_+_, _-_}
 use mathlib.Core.Path.{_≡_, ap, _∙_}
 use lib.ListN.{take, drop, set}
-use Rattle.name_rules.specs.Mark.{mark}
+use Rattle.mark.specs.Mark.{mark}
 use Rattle.pack_names.proofs.Names.{two-puts}
 use borrow.Author.Needs.{needs}
 use Rattle.pack_names.proofs.place_name.Statement.{statement}

@@ -1,12 +1,12 @@
--- `name_rules::mark_of` meets its contract: the mark of what is left, after this one, is the name's. Assumes nothing.
+-- `mark::mark_of` meets its contract: the mark of what is left, after this one, is the name's. Assumes nothing.
 use Prim.Native.Nat.{_≤_, _<_, _-_}
 use native.Mathlib.Omega.{arith}
 use mathlib.Core.Path.{_≡_}
 use lib.ListN.{length, drop}
-use Rattle.name_rules.specs.Mark.{marks, markAfter, mark}
-use Rattle.name_rules.proofs.Mark.{mark-begins, mark-goes, mark-ends}
-use Rattle.name_rules.proofs.mark_of.Statement.{statement}
-use Rattle.name_rules.proofs.mark_of.Tie as tie
+use Rattle.mark.specs.Mark.{marks, markAfter, mark}
+use Rattle.mark.proofs.Mark.{mark-begins, mark-goes, mark-ends}
+use Rattle.mark.proofs.mark_of.Statement.{statement}
+use Rattle.mark.proofs.mark_of.Tie as tie
 
 abbrev Inv-loop : tie.InvT-loop
 Inv-loop name h₀ i₀ h i = (i ≤ length name) × ((h < marks) × (markAfter h (drop i name) ≡ mark name))

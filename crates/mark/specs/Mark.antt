@@ -1,11 +1,8 @@
 -- A name's mark: a number made of its bytes, of which nobody must know more than that it is a function of them. Two names are compared
 -- only where their marks agree.
 -- Assumes nothing.
-use Prim.Native.Nat.{ℕ, _+_, _*_, _%_, _<_}
-use mathlib.Core.Path.{_≡_}
+use Prim.Native.Nat.{ℕ, _+_, _*_, _%_}
 use mathlib.Core.List.{List, [], _∷_}
-use lib.ListN.{getD}
-use Rattle.name_rules.specs.Placed.{nameOf}
 
 -- marks are numbers of 32 bits; the factor is that of Fowler, Noll and Vo
 abbrev pub marks : ℕ
@@ -22,7 +19,3 @@ markAfter h (b ∷ bs) = markAfter ((h * factor + b) % marks) bs
 unfoldable pub mark : List ℕ → ℕ
 unfolding markAfter
 mark bs = markAfter 0 bs
-
--- the first n names' marks stand in the list
-abbrev pub Marked : ℕ → List ℕ → List ℕ → List ℕ → Type 0
-Marked n categories names l = (i : ℕ) → i < n → getD l i 0 ≡ mark (nameOf i categories names)
