@@ -28,7 +28,7 @@ use Rattle.name_rules.specs.Placed.{placed, nameOf, placedNames}
 use Rattle.mark.specs.Mark.{mark}
 use Rattle.name_rules.specs.Marked.{Marked}
 use Rattle.name_rules.proofs.Placed.{placed-snoc}
-use Rattle.pack_names.specs.Names.{Store, Stored, Named, Naming}
+use Rattle.pack_names.specs.Names.{Store, Stored, Named}
 use Rattle.pack_field.proofs.Steps.{fails, passes}
 
 -- a name behind others in a store of n bytes
@@ -235,6 +235,3 @@ module _ {ns : List (List ℕ)} {s₀ : Store} {i used : ℕ} (z : Named ns s₀
               | no d ↦ getD-set-other (s₀ .marks) i k _ 0 d ∙ z .marked k (omega arith) ∙ ap mark (sym (List·getD-append ns (name ∷ []) [] k (omega arith)))
             ];
       }
-
-  pub naming-more : s₁ .marks ≡ set (s₀ .marks) i (mark (take len (drop used (s₁ .names)))) → Naming s₁ (i + 1) (used + len)
-  naming-more e = record { before = ns ++ (name ∷ []); held = named-more e }

@@ -75,9 +75,6 @@ bound-read b =
       b .says,
     )
 
-isDot : ℕ → Bool
-isDot c = eqb c dot
-
 parts-one : (s : List ℕ) → T (all (λ c. not (eqb c dot)) s) → parts s ≡ s ∷ []
 parts-one [] a = refl
 parts-one (c ∷ []) a = refl
@@ -235,9 +232,6 @@ name-no-0x (c ∷ []) (d ∷ gap) s f n g =
     (not-T (eqb c digit0 && eqb d letterX)
     (λ t. T-not (eqb d letterX) (and-yes (eqb c digit0) (eqb d letterX) t .1) (sep-no-x d (and-yes (isSep d) (all isSep gap) g .0))))
 name-no-0x (c ∷ d ∷ name) gap s f n g = T→false (eqb c digit0 && eqb d letterX) n
-
-no-hash-name : (s : List ℕ) → T (full isNameChar s) → T (all (un isHash) s)
-no-hash-name s f = all-imp isNameChar (un isHash) name-no-hash s (full-all isNameChar s f)
 
 no-hash-field : (s : List ℕ) → T (full isFieldChar s) → T (all (un isHash) s)
 no-hash-field s f = all-imp isFieldChar (un isHash) field-no-hash s (full-all isFieldChar s f)
