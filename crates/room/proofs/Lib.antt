@@ -1,4 +1,5 @@
--- The laws of readers that fill the five tables.
+-- The laws of readers that fill five tables, whatever they read.
+pub mod Five
 pub mod Sizes
 pub mod Whole
 pub mod Promise

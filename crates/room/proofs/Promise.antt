@@ -1,32 +1,30 @@
 -- What the promise of a reader says, whatever it reads: which outcome each answer of the paper is, what memory holds after it, and that nothing
 -- is left open.
 -- Assumes nothing.
-use Prim.Native.Nat.{ℕ, _*_, _-_, _≤_}
+use Prim.Native.Nat.{ℕ, _*_}
 use mathlib.Core.Path.{_≡_, refl, sym, ap, _∙_}
 use mathlib.Core.Logic.{_↔_}
-use mathlib.Core.Bool.{Bool, true, false, cond}
+use mathlib.Core.Bool.{true, false, cond}
 use mathlib.Core.List.{List, _++_, append-assoc}
 use mathlib.Core.Option.{some}
-use lib.ListN.{length, drop, replicate, length-replicate}
-use lib.Seq.{drop-at}
-use borrow.Author.Tests.{le-leb}
 use Rattle.paper.specs.Sizes.{maxCategories, maxNameBytes, maxCategoryLines, maxRanges, maxReferences}
 use Rattle.paper.specs.Refusals.{roomShort}
 use Rattle.paper.specs.CharDef.Reading.{Reading, Answer, accepted, refused}
 use Rattle.paper.specs.Computed.HandedIn.{handedIn}
 use Rattle.paper.specs.Pack.Rules.{PackRules}
 use Rattle.paper.specs.Tables.Layout.{Tables, layout, inRoom, behind, countsOf, FitsRoom, nameSlotSize, definitionSize, rangeSlotSize, referenceSize}
-use Rattle.paper.specs.Tables.Lent.{zeroed, padded}
+use Rattle.paper.specs.Tables.Lent.{padded}
 use Rattle.paper.specs.Tables.Reader.{hasRoom, inLent, given, clears, past, cleared, leaves, Reads}
 use Rattle.paper.specs.declared.Counts.{Counts}
 use Rattle.paper.specs.declared.Refusal.{Refusal}
 use Rattle.paper.specs.declared.Outcome.{Outcome}
 use Rattle.paper.specs.declared.Outcome.the-variants.{Accepted, Refused}
 use Rattle.paper.proofs.Apart.{zero-one}
-use Rattle.paper.proofs.Tables.Append.{padded-length}
 use Rattle.paper.proofs.Tables.Room.{zeros, padded-is, layout-fits}
 use Rattle.paper.proofs.Tables.Trip.{tables-is, handed-in}
-use Rattle.room.proofs.Sizes.{RoomIn, room-is}
+use Rattle.room.proofs.Five.{past-padded, past-zero, past-either, by-test}
+use Rattle.room.proofs.Sizes.{RoomIn, room-in}
+use Rattle.room.proofs.Whole.{short-answer, has-answer}
 
 -- ---- NOTHING IS LEFT OPEN: two outcomes that the promise allows coincide, in the answer and in the memory
 
@@ -49,31 +47,30 @@ refused-is (refused k place) x e =
 
 pub short-exactly : {a : Answer} {lent after : Tables} {r : Outcome} → Reads a lent after r → hasRoom lent ≡ false
     → (r ≡ Refused (record { number = roomShort; place = 0 })) × (after ≡ lent)
-unfolding inLent leaves clears
+unfolding leaves clears
 short-exactly {a} {lent} p e =
-    let i : inLent lent a ≡ refused roomShort 0 = ap (λ b. cond b a (refused roomShort 0)) e in
+    let i : inLent lent a ≡ refused roomShort 0 = short-answer a lent e in
     (p .answer ∙ ap given i, p .memory ∙ ap (λ x. leaves x lent) i)
 
 module _ {a : Answer} {lent after : Tables} {r : Outcome} (room : hasRoom lent ≡ true) (p : Reads a lent after r) where
-  has-answer : inLent lent a ≡ a
-  unfolding inLent
-  has-answer = ap (λ b. cond b a (refused roomShort 0)) room
+  own-answer : inLent lent a ≡ a
+  own-answer = has-answer a lent room
 
   pub accepted-exactly : (n : Counts) → (r ≡ Accepted n) ↔ ((q : Reading) × (a ≡ accepted q) × (n ≡ countsOf q))
   accepted-exactly n =
-      (λ e. accepted-is a n (sym e ∙ p .answer ∙ ap given has-answer), λ (q, i, c). p .answer ∙ ap given (has-answer ∙ i) ∙ ap Accepted (sym c))
+      (λ e. accepted-is a n (sym e ∙ p .answer ∙ ap given own-answer), λ (q, i, c). p .answer ∙ ap given (own-answer ∙ i) ∙ ap Accepted (sym c))
 
   pub refused-exactly : (x : Refusal) → (r ≡ Refused x) ↔ (a ≡ refused (x .number) (x .place))
-  refused-exactly x = (λ e. refused-is a x (sym e ∙ p .answer ∙ ap given has-answer), λ i. p .answer ∙ ap given (has-answer ∙ i))
+  refused-exactly x = (λ e. refused-is a x (sym e ∙ p .answer ∙ ap given own-answer), λ i. p .answer ∙ ap given (own-answer ∙ i))
 
   -- the reading's tables, and what lay past the sizes
   pub holds-reading : (q : Reading) → a ≡ accepted q → after ≡ behind (inRoom (layout q)) (past lent)
   unfolding leaves
-  holds-reading q i = p .memory ∙ ap (λ x. leaves x lent) (has-answer ∙ i)
+  holds-reading q i = p .memory ∙ ap (λ x. leaves x lent) (own-answer ∙ i)
 
   pub refused-leaves : (n place : ℕ) → a ≡ refused n place → after ≡ cond (clears n) (cleared lent) lent
   unfolding leaves
-  refused-leaves n place i = p .memory ∙ ap (λ x. leaves x lent) (has-answer ∙ i)
+  refused-leaves n place i = p .memory ∙ ap (λ x. leaves x lent) (own-answer ∙ i)
 
 -- ---- the reading is the one in the tables
 
@@ -105,13 +102,6 @@ handed-back {a} {lent} room p q i k =
 
 -- ---- past the sizes memory is untouched, whatever the answer
 
-past-padded : (n : ℕ) (l m : List ℕ) → length l ≤ n → drop n (padded n l ++ m) ≡ m
-past-padded n l m h = drop-at (padded n l) m n (padded-length n l h)
-
-past-zero : (n : ℕ) (l : List ℕ) → n ≤ length l → drop n (zeroed n l) ≡ drop n l
-unfolding zeroed
-past-zero n l h = rw (le-leb n (length l) h) (drop-at (replicate n 0) (drop n l) n (length-replicate n 0))
-
 past-filled : (lent t : Tables) → FitsRoom t → past (behind (inRoom t) (past lent)) ≡ past lent
 unfolding past behind inRoom
 past-filled lent t w =
@@ -124,22 +114,15 @@ past-filled lent t w =
 past-cleared : (lent : Tables) → RoomIn lent → past (cleared lent) ≡ past lent
 unfolding past cleared
 past-cleared lent h =
-    tables-is (past lent) _ _ _ _ _ (past-zero maxNameBytes (lent .names) (h .for-names)) (past-zero (nameSlotSize * maxCategories) (lent .categories) (h .for-categories))
-    (past-zero (definitionSize * maxCategoryLines) (lent .definitions) (h .for-definitions)) (past-zero (rangeSlotSize * maxRanges) (lent .ranges) (h .for-ranges))
-    (past-zero (referenceSize * maxReferences) (lent .references) (h .for-references))
+    tables-is (past lent) _ _ _ _ _ (past-zero maxNameBytes (lent .names) (h .first)) (past-zero (nameSlotSize * maxCategories) (lent .categories) (h .second))
+    (past-zero (definitionSize * maxCategoryLines) (lent .definitions) (h .third)) (past-zero (rangeSlotSize * maxRanges) (lent .ranges) (h .fourth))
+    (past-zero (referenceSize * maxReferences) (lent .references) (h .fifth))
 
 pub past-kept : {a : Answer} {lent after : Tables} {r : Outcome} → Reads a lent after r
     → ((q : Reading) → a ≡ accepted q → PackRules q) → past after ≡ past lent
-past-kept {a} {lent} {after} {r} p k = by-room (hasRoom lent) refl
+past-kept {a} {lent} {after} {r} p k = by-test (hasRoom lent) (by-answer a refl) (λ e. ap past (short-exactly p e .1))
   where
-    by-number : (b : Bool) → RoomIn lent → past (cond b (cleared lent) lent) ≡ past lent
-    by-number true h = past-cleared lent h
-    by-number false h = refl
-
     by-answer : (x : Answer) → a ≡ x → hasRoom lent ≡ true → past after ≡ past lent
     by-answer (accepted q) i room = ap past (holds-reading room p q i) ∙ past-filled lent (layout q) (layout-fits q (k q i .limits))
-    by-answer (refused n place) i room = ap past (refused-leaves room p n place i) ∙ by-number (clears n) (room-is _ _ _ _ _ (sym room))
-
-    by-room : (b : Bool) → hasRoom lent ≡ b → past after ≡ past lent
-    by-room false e = ap past (short-exactly p e .1)
-    by-room true e = by-answer a refl e
+    by-answer (refused n place) i room =
+        ap past (refused-leaves room p n place i) ∙ past-either past (clears n) (past-cleared lent (room-in lent (sym room)))

@@ -1,38 +1,38 @@
 -- From tables of the sizes to lent tables of any length: what a reader promises over the parts that it works in, and what lies past them.
 -- Assumes nothing.
-use Prim.Native.Nat.{ℕ, _*_, _-_, _≤_}
-use native.Mathlib.Omega.{arith}
+use Prim.Native.Nat.{ℕ, _*_}
 use mathlib.Core.Path.{_≡_, refl, sym, ap, _∙_}
 use mathlib.Core.Bool.{true, false, cond}
-use mathlib.Core.List.{List, [], _++_}
-use lib.ListN.{length, drop, replicate}
-use borrow.Author.Tests.{le-leb}
+use mathlib.Core.List.{_++_}
+use lib.ListN.{drop}
 use Rattle.paper.specs.Sizes.{maxCategories, maxNameBytes, maxCategoryLines, maxRanges, maxReferences}
 use Rattle.paper.specs.Refusals.{roomShort}
 use Rattle.paper.specs.CharDef.Reading.{Answer, accepted, refused}
 use Rattle.paper.specs.Tables.Layout.{Tables, inRoom, behind, nameSlotSize, definitionSize, rangeSlotSize, referenceSize}
-use Rattle.paper.specs.Tables.Lent.{zeroed, padded}
 use Rattle.paper.specs.Tables.Reader.{hasRoom, inLent, given, clears, past, cleared, leaves, Reads}
 use Rattle.paper.specs.declared.Outcome.{Outcome}
 use Rattle.paper.specs.declared.Outcome.the-variants.{Accepted, Refused}
 use Rattle.paper.proofs.Tables.Trip.{tables-is}
 use Rattle.room.specs.Sized.{noTables, ReadInto}
-use Rattle.room.proofs.Sizes.{RoomIn, room-is}
-
-zero-past : (n : ℕ) (l : List ℕ) → n ≤ length l → padded n [] ++ drop n l ≡ zeroed n l
-unfolding padded zeroed
-zero-past n l h =
-    let k : n - 0 ≡ n = omega arith in
-    rw (le-leb n (length l) h) (ap (λ m. replicate m 0 ++ drop n l) k)
+use Rattle.room.proofs.Five.{zero-past}
+use Rattle.room.proofs.Sizes.{RoomIn, room-in}
 
 cleared-is : (t : Tables) → RoomIn t → behind (inRoom noTables) (past t) ≡ cleared t
 unfolding behind inRoom noTables past cleared
 cleared-is t h =
-    tables-is (cleared t) _ _ _ _ _ (zero-past maxNameBytes (t .names) (h .for-names)) (zero-past (nameSlotSize * maxCategories) (t .categories) (h .for-categories))
-    (zero-past (definitionSize * maxCategoryLines) (t .definitions) (h .for-definitions)) (zero-past (rangeSlotSize * maxRanges) (t .ranges) (h .for-ranges))
-    (zero-past (referenceSize * maxReferences) (t .references) (h .for-references))
+    tables-is (cleared t) _ _ _ _ _ (zero-past maxNameBytes (t .names) (h .first)) (zero-past (nameSlotSize * maxCategories) (t .categories) (h .second))
+    (zero-past (definitionSize * maxCategoryLines) (t .definitions) (h .third)) (zero-past (rangeSlotSize * maxRanges) (t .ranges) (h .fourth))
+    (zero-past (referenceSize * maxReferences) (t .references) (h .fifth))
 
 module _ (a : Answer) (t : Tables) where
+  pub short-answer : hasRoom t ≡ false → inLent t a ≡ refused roomShort 0
+  unfolding inLent
+  short-answer e = ap (λ b. cond b a (refused roomShort 0)) e
+
+  pub has-answer : hasRoom t ≡ true → inLent t a ≡ a
+  unfolding inLent
+  has-answer e = ap (λ b. cond b a (refused roomShort 0)) e
+
   -- a refusal that leaves memory as it was
   unchanged : (n place : ℕ) → inLent t a ≡ refused n place → clears n ≡ false → Reads a t t (Refused (record { number = n; place = place }))
   unfolding leaves
@@ -43,31 +43,27 @@ module _ (a : Answer) (t : Tables) where
       }
 
   pub short-room : false ≡ hasRoom t → Reads a t t (Refused (record { number = roomShort; place = 0 }))
-  unfolding inLent clears
-  short-room e = unchanged roomShort 0 (ap (λ b. cond b a (refused roomShort 0)) (sym e)) refl
+  unfolding clears
+  short-room e = unchanged roomShort 0 (short-answer (sym e)) refl
 
   module _ (room : true ≡ hasRoom t) where
-    has-answer : inLent t a ≡ a
-    unfolding inLent
-    has-answer = ap (λ b. cond b a (refused roomShort 0)) (sym room)
-
     pub nothing-written : (n place : ℕ) → a ≡ refused n place → clears n ≡ false → Reads a t t (Refused (record { number = n; place = place }))
-    nothing-written n place e h = unchanged n place (has-answer ∙ e) h
+    nothing-written n place e h = unchanged n place (has-answer (sym room) ∙ e) h
 
     into : ((n place : ℕ) → a ≡ refused n place → clears n ≡ true) → (part after : Tables) → after ≡ behind part (past t)
         → (r : Outcome) → ReadInto a part r → Reads a t after r
     unfolding leaves
     into k part after e (Accepted n) z =
-        let i : inLent t a ≡ accepted (z .reading) = has-answer ∙ z .is in
+        let i : inLent t a ≡ accepted (z .reading) = has-answer (sym room) ∙ z .is in
         record {
           answer = ap Accepted (z .counts) ∙ ap given (sym i);
           memory = e ∙ ap (λ x. behind x (past t)) (z .tables) ∙ ap (λ x. leaves x t) (sym i);
         }
     into k part after e (Refused x) z =
-        let i : inLent t a ≡ refused (x .number) (x .place) = has-answer ∙ z .is in
+        let i : inLent t a ≡ refused (x .number) (x .place) = has-answer (sym room) ∙ z .is in
         record {
           answer = ap given (sym i);
-          memory = e ∙ ap (λ y. behind y (past t)) (z .tables) ∙ cleared-is t (room-is _ _ _ _ _ room)
+          memory = e ∙ ap (λ y. behind y (past t)) (z .tables) ∙ cleared-is t (room-in t room)
               ∙ sym (ap (λ y. leaves y t) i ∙ ap (λ b. cond b (cleared t) t) (k (x .number) (x .place) (z .is)));
         }
 

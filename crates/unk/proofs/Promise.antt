@@ -1,14 +1,12 @@
 -- What the promise of `parse_unk` says, in the paper's relations, and that it leaves nothing open. Assumes nothing.
-use Prim.Native.Nat.{ℕ, _+_, _-_, _≤_}
+use Prim.Native.Nat.{ℕ, _≤_}
 use native.Mathlib.Omega.{arith}
 use mathlib.Core.Path.{_≡_, refl, sym, ap, _∙_, subst}
 use mathlib.Core.Logic.{_↔_}
-use mathlib.Core.Bool.{Bool, true, false, cond}
-use mathlib.Core.List.{List, _++_, map}
+use mathlib.Core.Bool.{true, false, cond}
+use mathlib.Core.List.{List, map}
 use mathlib.Core.Option.{Option, none, some}
-use lib.ListN.{length, drop, replicate, getElem?, length-map, length-replicate}
-use lib.Seq.{drop-at}
-use borrow.Author.Tests.{le-leb}
+use lib.ListN.{length, getElem?, length-map}
 use Rattle.paper.specs.Sizes.{maxCategories, maxUnkEntries, maxDetailBytes}
 use Rattle.paper.specs.Refusals.{roomShort, tablesApart}
 use Rattle.paper.specs.Lists.{joined, sum, offsetsFrom}
@@ -19,18 +17,17 @@ use Rattle.paper.specs.Unk.Bad.{UnkAnswer, accepted, refused, UnkRefused}
 use Rattle.paper.specs.Computed.HandedIn.{decoded, holds, handedIn}
 use Rattle.paper.specs.Computed.ReadUnk.{readUnk}
 use Rattle.paper.specs.Tables.Layout.{Tables, referenceSize}
-use Rattle.paper.specs.Tables.Lent.{zeroed, padded}
 use Rattle.paper.specs.Tables.Reader.{clears}
 use Rattle.paper.specs.declared.Counts.{Counts}
 use Rattle.paper.specs.declared.Refusal.{Refusal}
 use Rattle.paper.proofs.Apart.{zero-one}
 use Rattle.paper.proofs.Lists.Facts.{joined-length, offsets-length}
-use Rattle.paper.proofs.Tables.Append.{padded-length}
 use Rattle.paper.proofs.Tables.Laws.{le-length, table-length}
 use Rattle.paper.proofs.Unk.Details.{details-fit}
 use Rattle.paper.proofs.Unk.Members.{category-entries}
 use Rattle.paper.proofs.Unk.Refused.{unk-refused-exactly}
 use Rattle.paper.proofs.Unk.Text.{unk-accepts}
+use Rattle.room.proofs.Five.{past-padded, past-zero, past-either, by-test}
 use Rattle.unk_enter.specs.declared.UnkCounts.{UnkCounts}
 use Rattle.unk.specs.declared.UnkOutcome.{UnkOutcome}
 use Rattle.unk.specs.declared.UnkOutcome.the-variants.{Accepted, Refused}
@@ -40,13 +37,13 @@ use Rattle.unk_enter.specs.Lines.{markIn, entryBytes}
 use Rattle.unk_members.specs.Members.{listsFrom, tallies, memberTable}
 use Rattle.unk.specs.Parse.{entriesSize, offsetsSize, placesSize, membersSize, hasRoom, overReading, answerTo, countsOf, given, inRoom, past, behind, cleared, leaves, ParsesUnk}
 use Rattle.unk.specs.Filled.{marksOf, laidOut}
-use Rattle.unk.proofs.Room.{tables-is, RoomIn, room-is}
+use Rattle.unk.proofs.Room.{tables-is, RoomIn, room-in}
 use Rattle.unk_enter.proofs.Entered.{wide-word}
 use Rattle.unk_members.proofs.Tallies.{tallies-length, sum-tallies}
 use Rattle.unk_members.proofs.Places.{place-length}
 use Rattle.unk_members.proofs.Passes.{lists-tallies}
 use Rattle.unk.proofs.Laid.{laid-out-is}
-use Rattle.unk.proofs.Whole.{named, few-categories, handed-true, handed-decoded}
+use Rattle.unk.proofs.Whole.{named, few-categories, handed-true, handed-decoded, short-answer, has-answer}
 
 -- ---- NOTHING IS LEFT OPEN: two outcomes that the promise allows coincide, in the answer and in the memory
 
@@ -70,15 +67,14 @@ module _ {t : Tables} {n : Counts} {text : List ℕ} {lent after : UnkTables} {r
   -- ---- refusal 1: where the room is short, and nothing is changed
 
   pub short-exactly : hasRoom lent ≡ false → (r ≡ Refused (record { number = roomShort; place = 0 })) × (after ≡ lent)
-  unfolding answerTo leaves clears
+  unfolding leaves clears
   short-exactly e =
-      let a : answerTo t n text lent ≡ refused roomShort 0 = ap (λ b. cond b (overReading (handedIn t n) text) (refused roomShort 0)) e in
+      let a : answerTo t n text lent ≡ refused roomShort 0 = short-answer t n text lent e in
       (p .answer ∙ ap given a, p .memory ∙ ap (λ x. leaves x lent) a)
 
   module _ (room : hasRoom lent ≡ true) where
     over : answerTo t n text lent ≡ overReading (handedIn t n) text
-    unfolding answerTo
-    over = ap (λ b. cond b (overReading (handedIn t n) text) (refused roomShort 0)) room
+    over = has-answer t n text lent room
 
     -- ---- refusal 26: where the tables hold no reading, and nothing is changed
 
@@ -166,13 +162,6 @@ module _ (t : Tables) (n : Counts) (q : Reading) (handed : handedIn t n ≡ some
 
 -- ---- past the sizes memory is untouched, whatever the answer
 
-past-padded : (k : ℕ) (l m : List ℕ) → length l ≤ k → drop k (padded k l ++ m) ≡ m
-past-padded k l m h = drop-at (padded k l) m k (padded-length k l h)
-
-past-zero : (k : ℕ) (l : List ℕ) → k ≤ length l → drop k (zeroed k l) ≡ drop k l
-unfolding zeroed
-past-zero k l h = rw (le-leb k (length l) h) (drop-at (replicate k 0) (drop k l) k (length-replicate k 0))
-
 past-filled : (lent x : UnkTables) → FitsRoom x → past (behind (inRoom x) (past lent)) ≡ past lent
 unfolding past behind inRoom
 past-filled lent x w =
@@ -183,26 +172,18 @@ past-filled lent x w =
 past-cleared : (lent : UnkTables) → RoomIn lent → past (cleared lent) ≡ past lent
 unfolding past cleared
 past-cleared lent h =
-    tables-is (past lent) _ _ _ _ _ (past-zero entriesSize (lent .entries) (h .for-entries)) (past-zero offsetsSize (lent .offsets) (h .for-offsets))
-    (past-zero maxDetailBytes (lent .details) (h .for-details)) (past-zero placesSize (lent .places) (h .for-places)) (past-zero membersSize (lent .members) (h .for-members))
+    tables-is (past lent) _ _ _ _ _ (past-zero entriesSize (lent .entries) (h .first)) (past-zero offsetsSize (lent .offsets) (h .second))
+    (past-zero maxDetailBytes (lent .details) (h .third)) (past-zero placesSize (lent .places) (h .fourth)) (past-zero membersSize (lent .members) (h .fifth))
 
 pub past-kept : {t : Tables} {n : Counts} {text : List ℕ} {lent after : UnkTables} {r : UnkOutcome} → ParsesUnk t n text lent after r → past after ≡ past lent
 unfolding leaves
-past-kept {t} {n} {text} {lent} {after} p = by-room (hasRoom lent) refl
+past-kept {t} {n} {text} {lent} {after} p = by-test (hasRoom lent) (λ room. by-reading room (handedIn t n) refl) (λ e. ap past (short-exactly p e .1))
   where
-    by-number : (b : Bool) → RoomIn lent → past (cond b (cleared lent) lent) ≡ past lent
-    by-number true h = past-cleared lent h
-    by-number false h = refl
-
     by-answer : (q : Reading) → handedIn t n ≡ some q → (a : UnkAnswer) → readUnk (q .names) text ≡ a → RoomIn lent → past (leaves a lent) ≡ past lent
     by-answer q handed (accepted u) e h = past-filled lent (layout u) (tables-fit t n q handed text u (unk-accepts (q .names) text u .0 e))
-    by-answer q handed (refused k place) e h = by-number (clears k) h
+    by-answer q handed (refused k place) e h = past-either past (clears k) (past-cleared lent h)
 
     by-reading : hasRoom lent ≡ true → (o : Option Reading) → handedIn t n ≡ o → past after ≡ past lent
     by-reading room none e = ap past (apart-exactly p room e .1)
     by-reading room (some q) e =
-        ap past (p .memory ∙ ap (λ a. leaves a lent) (answered-so p room q e)) ∙ by-answer q e (readUnk (q .names) text) refl (room-is _ _ _ _ _ (sym room))
-
-    by-room : (b : Bool) → hasRoom lent ≡ b → past after ≡ past lent
-    by-room false e = ap past (short-exactly p e .1)
-    by-room true e = by-reading e (handedIn t n) refl
+        ap past (p .memory ∙ ap (λ a. leaves a lent) (answered-so p room q e)) ∙ by-answer q e (readUnk (q .names) text) refl (room-in lent (sym room))

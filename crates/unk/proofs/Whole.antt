@@ -38,7 +38,7 @@ use Rattle.unk.specs.Layout.{UnkTables}
 use Rattle.unk_enter.specs.Lines.{markIn}
 use Rattle.unk.specs.Parse.{entriesSize, offsetsSize, placesSize, membersSize, hasRoom, overReading, answerTo, countsOf, given, inRoom, past, behind, cleared, leaves, ParsesUnk}
 use Rattle.unk.specs.Filled.{LinesRead, Judges, SoundInput, UnsoundInput}
-use Rattle.unk.proofs.Room.{room-is, cleared-is}
+use Rattle.unk.proofs.Room.{room-in, cleared-is}
 use Rattle.unk.proofs.Laid.{Named, laid-out-is}
 
 -- ---- a reading's names
@@ -153,6 +153,14 @@ counted names es c p q = counts-is c (countsOf (unkOf names es)) (p ∙ sym (len
 -- ---- the ways through
 
 module _ (t : Tables) (n : Counts) (text : List ℕ) (lent : UnkTables) where
+  pub short-answer : hasRoom lent ≡ false → answerTo t n text lent ≡ refused roomShort 0
+  unfolding answerTo
+  short-answer e = ap (λ b. cond b (overReading (handedIn t n) text) (refused roomShort 0)) e
+
+  pub has-answer : hasRoom lent ≡ true → answerTo t n text lent ≡ overReading (handedIn t n) text
+  unfolding answerTo
+  has-answer e = ap (λ b. cond b (overReading (handedIn t n) text) (refused roomShort 0)) e
+
   unchanged : (k place : ℕ) → answerTo t n text lent ≡ refused k place → clears k ≡ false → ParsesUnk t n text lent lent (Refused (record { number = k; place = place }))
   unfolding leaves
   unchanged k place e h =
@@ -162,16 +170,12 @@ module _ (t : Tables) (n : Counts) (text : List ℕ) (lent : UnkTables) where
       }
 
   pub short-room : false ≡ hasRoom lent → ParsesUnk t n text lent lent (Refused (record { number = roomShort; place = 0 }))
-  unfolding answerTo clears
-  short-room e = unchanged roomShort 0 (ap (λ b. cond b (overReading (handedIn t n) text) (refused roomShort 0)) (sym e)) refl
+  unfolding clears
+  short-room e = unchanged roomShort 0 (short-answer (sym e)) refl
 
   module _ (room : true ≡ hasRoom lent) where
-    has-answer : answerTo t n text lent ≡ overReading (handedIn t n) text
-    unfolding answerTo
-    has-answer = ap (λ b. cond b (overReading (handedIn t n) text) (refused roomShort 0)) (sym room)
-
     pub unsound : (k place : ℕ) → UnsoundInput t n text k place → ParsesUnk t n text lent lent (Refused (record { number = k; place = place }))
-    unsound k place u = unchanged k place (has-answer ∙ u .is) (u .kept)
+    unsound k place u = unchanged k place (has-answer (sym room) ∙ u .is) (u .kept)
 
     module _ (s : SoundInput t n text) where
       names : List (List ℕ)
@@ -179,7 +183,7 @@ module _ (t : Tables) (n : Counts) (text : List ℕ) (lent : UnkTables) where
 
       by-lines : answerTo t n text lent ≡ answerUnk names (readEntries 1 (unkLines text))
       unfolding names
-      by-lines = has-answer ∙ over t n text (s .holding) ∙ lines-answer (decoded t n .names) text (s .short) (s .formed)
+      by-lines = has-answer (sym room) ∙ over t n text (s .holding) ∙ lines-answer (decoded t n .names) text (s .short) (s .formed)
 
       into : (part after : UnkTables) → after ≡ behind part (past lent) → (r : UnkOutcome)
           → LinesRead (markIn (t .names) (t .categories) (n .categories)) (n .categories) (readEntries 1 (unkLines text)) part r → ParsesUnk t n text lent after r
@@ -194,7 +198,7 @@ module _ (t : Tables) (n : Counts) (text : List ℕ) (lent : UnkTables) where
           let i : answerTo t n text lent ≡ refused (x .number) (x .place) = by-lines ∙ ap (answerUnk names) (z .is) in
           record {
             answer = ap given (sym i);
-            memory = e ∙ ap (λ y. behind y (past lent)) (z .tables) ∙ cleared-is lent (room-is _ _ _ _ _ room)
+            memory = e ∙ ap (λ y. behind y (past lent)) (z .tables) ∙ cleared-is lent (room-in lent room)
                 ∙ sym (ap (λ y. leaves y lent) i ∙ ap (λ b. cond b (cleared lent) lent) (line-clears text (x .number) (x .place) (z .is)));
           }
 

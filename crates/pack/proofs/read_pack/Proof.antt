@@ -4,7 +4,9 @@ use denote.Ref.{now}
 use Rattle.paper.specs.Sizes.{maxNameBytes, maxCategories, maxCategoryLines, maxRanges, maxReferences}
 use Rattle.paper.specs.Computed.ReadPack.{readPack}
 use Rattle.paper.specs.Tables.Layout.{Tables, nameSlotSize, definitionSize, rangeSlotSize, referenceSize}
-use Rattle.room.proofs.Sizes.{RoomIn, lacking, having, roomy, part-long, parts-sized}
+use Rattle.paper.specs.Tables.Reader.{hasRoom}
+use Rattle.room.proofs.Five.{lacking, having, part-long}
+use Rattle.room.proofs.Sizes.{RoomIn, roomy, parts-sized}
 use Rattle.room.proofs.Whole.{short-room, reads}
 use Rattle.pack.proofs.Answer.{refusals-clear}
 use Rattle.pack.proofs.Kept.{part-kept}
@@ -24,37 +26,37 @@ has-room-requires : tie.Need-has-room-requires
 has-room-requires c κs = tt
 
 returns : tie.Need-returns
-returns c = short-room (readPack (now (c .before .before .before .before .before .before .before .before .args .pack))) (lent (c .before .before .before .before .before .before .before .before)) (lacking (lent (c .before .before .before .before .before .before .before .before)) (c .before .has-room .ensures) (c .if1 .taken))
+returns c = short-room (readPack (now (c .before .before .before .before .before .before .before .before .args .pack))) (lent (c .before .before .before .before .before .before .before .before)) (lacking (hasRoom (lent (c .before .before .before .before .before .before .before .before))) (c .before .has-room .ensures) (c .if1 .taken))
 
 slice-relend-prefix-read-into : tie.Need-slice-relend-prefix-read-into
-slice-relend-prefix-read-into c = roomed c .for-names
+slice-relend-prefix-read-into c = roomed c .first
 
 slice-aggregate-read-into : tie.Need-slice-aggregate-read-into
-slice-aggregate-read-into c = part-long maxNameBytes (now (c .before .before .before .before .before .before .before .before .before .args .names)) (roomed (c .before) .for-names)
+slice-aggregate-read-into c = part-long maxNameBytes (now (c .before .before .before .before .before .before .before .before .before .args .names)) (roomed (c .before) .first)
 
 slice-relend-prefix-read-into-2 : tie.Need-slice-relend-prefix-read-into-2
-slice-relend-prefix-read-into-2 c = roomed (c .before) .for-categories
+slice-relend-prefix-read-into-2 c = roomed (c .before) .second
 
 slice-aggregate-read-into-2 : tie.Need-slice-aggregate-read-into-2
-slice-aggregate-read-into-2 c = part-long (nameSlotSize * maxCategories) (now (c .before .before .before .before .before .before .before .before .before .before .args .categories)) (roomed (c .before .before) .for-categories)
+slice-aggregate-read-into-2 c = part-long (nameSlotSize * maxCategories) (now (c .before .before .before .before .before .before .before .before .before .before .args .categories)) (roomed (c .before .before) .second)
 
 slice-relend-prefix-read-into-3 : tie.Need-slice-relend-prefix-read-into-3
-slice-relend-prefix-read-into-3 c = roomed (c .before .before) .for-definitions
+slice-relend-prefix-read-into-3 c = roomed (c .before .before) .third
 
 slice-aggregate-read-into-3 : tie.Need-slice-aggregate-read-into-3
-slice-aggregate-read-into-3 c = part-long (definitionSize * maxCategoryLines) (now (c .before .before .before .before .before .before .before .before .before .before .before .args .definitions)) (roomed (c .before .before .before) .for-definitions)
+slice-aggregate-read-into-3 c = part-long (definitionSize * maxCategoryLines) (now (c .before .before .before .before .before .before .before .before .before .before .before .args .definitions)) (roomed (c .before .before .before) .third)
 
 slice-relend-prefix-read-into-4 : tie.Need-slice-relend-prefix-read-into-4
-slice-relend-prefix-read-into-4 c = roomed (c .before .before .before) .for-ranges
+slice-relend-prefix-read-into-4 c = roomed (c .before .before .before) .fourth
 
 slice-aggregate-read-into-4 : tie.Need-slice-aggregate-read-into-4
-slice-aggregate-read-into-4 c = part-long (rangeSlotSize * maxRanges) (now (c .before .before .before .before .before .before .before .before .before .before .before .before .args .ranges)) (roomed (c .before .before .before .before) .for-ranges)
+slice-aggregate-read-into-4 c = part-long (rangeSlotSize * maxRanges) (now (c .before .before .before .before .before .before .before .before .before .before .before .before .args .ranges)) (roomed (c .before .before .before .before) .fourth)
 
 slice-relend-prefix-read-into-5 : tie.Need-slice-relend-prefix-read-into-5
-slice-relend-prefix-read-into-5 c = roomed (c .before .before .before .before) .for-references
+slice-relend-prefix-read-into-5 c = roomed (c .before .before .before .before) .fifth
 
 slice-aggregate-read-into-5 : tie.Need-slice-aggregate-read-into-5
-slice-aggregate-read-into-5 c = part-long (referenceSize * maxReferences) (now (c .before .before .before .before .before .before .before .before .before .before .before .before .before .args .references)) (roomed (c .before .before .before .before .before) .for-references)
+slice-aggregate-read-into-5 c = part-long (referenceSize * maxReferences) (now (c .before .before .before .before .before .before .before .before .before .before .before .before .before .args .references)) (roomed (c .before .before .before .before .before) .fifth)
 
 read-into-requires : tie.Need-read-into-requires
 read-into-requires c κs = parts-sized (lent (c .before .before .before .before .before .before .before .before .before .before .before .before .before)) (roomed (c .before .before .before .before .before))
@@ -77,7 +79,7 @@ same-length-5 c = part-kept (referenceSize * maxReferences) (now (c .before .bef
 returns-2 : tie.Need-returns-2
 returns-2 c =
     let l = (c .before .before .before .before .before .before .before .before .before .before .read-into .last) in
-    reads (readPack (now (c .before .before .before .before .before .before .before .before .before .before .before .before .before .before .before .before .before .before .before .before .before .before .before .before .args .pack))) (lent (c .before .before .before .before .before .before .before .before .before .before .before .before .before .before .before .before .before .before .before .before .before .before .before .before)) (having (lent (c .before .before .before .before .before .before .before .before .before .before .before .before .before .before .before .before .before .before .before .before .before .before .before .before)) (c .before .before .before .before .before .before .before .before .before .before .before .before .before .before .before .before .before .has-room .ensures) (c .before .before .before .before .before .before .before .before .before .before .before .before .before .before .before .before .if1 .left))
+    reads (readPack (now (c .before .before .before .before .before .before .before .before .before .before .before .before .before .before .before .before .before .before .before .before .before .before .before .before .args .pack))) (lent (c .before .before .before .before .before .before .before .before .before .before .before .before .before .before .before .before .before .before .before .before .before .before .before .before)) (having (hasRoom (lent (c .before .before .before .before .before .before .before .before .before .before .before .before .before .before .before .before .before .before .before .before .before .before .before .before))) (c .before .before .before .before .before .before .before .before .before .before .before .before .before .before .before .before .before .has-room .ensures) (c .before .before .before .before .before .before .before .before .before .before .before .before .before .before .before .before .if1 .left))
     (refusals-clear (now (c .before .before .before .before .before .before .before .before .before .before .before .before .before .before .before .before .before .before .before .before .before .before .before .before .args .pack)))
     (record { names = l .1 .0; categories = l .1 .1 .0; definitions = l .1 .1 .1 .0; ranges = l .1 .1 .1 .1 .0; references = l .1 .1 .1 .1 .1 .0 })
     (c .before .before .before .before .before .before .before .before .before .before .read-into .result) (c .before .before .before .before .before .before .before .before .before .before .read-into .ensures)
