@@ -1,7 +1,7 @@
 -- What the walk made is what `build_flat_table` promises; two outcomes that the promise allows coincide; and what it leaves is what lookups ask of
 -- tables as built. Idea: at each code point the entry of the row that is found is the paper's flat entry.
 -- Assumes nothing.
-use Prim.Native.Nat.{ℕ, suc, _+_, _≤_, _<_}
+use Prim.Native.Nat.{ℕ, suc, _≤_, _<_}
 use native.Mathlib.Omega.{arith}
 use mathlib.Core.Path.{_≡_, refl, sym, ap, ap₂, _∙_, subst}
 use mathlib.Core.Bool.{Bool, true, false, cond, _||_}

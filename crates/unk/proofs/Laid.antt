@@ -1,7 +1,7 @@
 -- The tables that the passes leave are the layout of what the text says. Over the reading's names a mark is suc c exactly where the name is name c,
 -- so the entries with that mark are those whose first field is the name; and the first list that has an entry is its mark's.
 -- Assumes nothing.
-use Prim.Native.Nat.{ℕ, zero, suc, _+_, _-_, _≤_, _<_}
+use Prim.Native.Nat.{ℕ, zero, suc, _+_, _≤_, _<_}
 use native.Mathlib.Nat.{not-suc-le-zero}
 use native.Mathlib.Numerals.{add-one}
 use native.Mathlib.Omega.{arith}

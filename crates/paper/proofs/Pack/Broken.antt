@@ -1,7 +1,7 @@
 -- The first broken field of a pack: the reader refuses a pack exactly by it, a pack has one at most, and a pack without one is the pack of one
 -- reading. Two beginnings of the same bits are the same as far as both go, since a field's bits say one value.
 -- Assumes nothing.
-use Prim.Native.Nat.{ℕ, _+_, _^_, _<_}
+use Prim.Native.Nat.{ℕ, _^_, _<_}
 use native.Mathlib.Omega.{arith}
 use mathlib.Core.Path.{_≡_, refl, sym, ap, ap₂, _∙_, subst}
 use mathlib.Core.Logic.{_⊎_, inl, inr, _↔_}
