@@ -153,6 +153,8 @@ fn run<A, B>(how: &How, mut ours: impl FnMut() -> A, mut theirs: impl FnMut() ->
     }
 }
 
+const DICTIONARIES: [&str; 4] = ["small", "largest", "crowded", "deepest"];
+
 const WORKS: [&str; 8] = [
     "read char.def",
     "rows",
@@ -237,32 +239,32 @@ fn main() {
     let samples = PathBuf::from("samples");
     let load = |name| match name {
         "small" => Dictionary::new(name, &samples.join("char.def"), &samples.join("unk.def")),
-        "largest" => Dictionary::new(
-            name,
-            &made.join("largest.char.def"),
-            &made.join("largest.unk.def"),
-        ),
         _ => Dictionary::new(
             name,
-            &made.join("deepest.char.def"),
+            &made.join(format!("{name}.char.def")),
             &made.join("largest.unk.def"),
         ),
     };
     let text = mixed_text();
     if let [_, name, which, side] = &words[..] {
-        let name = ["small", "largest", "deepest"]
+        let name = DICTIONARIES
             .into_iter()
             .find(|one| one == name)
             .expect("a dictionary");
         work(&load(name), which, &How::Once(side == "ours"), &text);
         return;
     }
-    for name in ["small", "largest", "deepest"] {
+    for name in DICTIONARIES {
         let dictionary = load(name);
         dictionary.check(&text);
         let asked = words.get(1).map_or("", String::as_str);
         let works = WORKS.into_iter().filter(|which| {
-            which.starts_with(asked) && (name != "deepest" || which.starts_with("rows"))
+            let meant = match name {
+                "deepest" => which.starts_with("rows"),
+                "crowded" => *which == "read char.def",
+                _ => true,
+            };
+            which.starts_with(asked) && meant
         });
         for which in works {
             let row = work(&dictionary, which, &How::Timed, &text).expect("timed");
