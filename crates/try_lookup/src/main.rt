@@ -1,22 +1,19 @@
 // Replays oracle/lists/rows.txt over the builders of rows and flat tables and over all lookups: the Rust's rows, flat tables, lookups, names and
 // definitions, rooms one place short, and tables with one field damaged. oracle/README.md has the list's form.
-mod change;
-mod flats;
-mod lookups;
-mod numbers;
-mod rows;
-mod sums;
-mod tally;
-mod words;
-
-use change::Change;
 use libc::STDIN_FILENO;
 use paper::Counts;
 use paper::Outcome;
 use replay::items::Reader;
-use rows::Asked;
-use rows::FILL16;
-use rows::FILL32;
+use replay_line::change;
+use replay_line::change::Change;
+use replay_line::tally;
+use replay_lookup::lookups;
+use replay_lookup::numbers;
+use replay_rows::flats;
+use replay_rows::rows;
+use replay_rows::rows::Asked;
+use replay_rows::rows::FILL16;
+use replay_rows::rows::FILL32;
 
 // The list is read in two halves, and the first one ends with a line.
 const HALF: usize = 524288;
