@@ -22,7 +22,7 @@ FLAT_ROW = 255
 NAMES = ["".join(letters) for letters in itertools.islice(itertools.product(string.ascii_uppercase, repeat=3), 0, 7 * CATEGORIES, 7)]
 
 # As crates `mark` and `slot` have them.
-MARKS, MARK_FACTOR, HINTS = 2 ** 32, 16777619, 1024
+MARKS, MARK_FACTOR, HINTS = 2 ** 32, 16777619, 512
 
 
 def hint_place(name):

@@ -25,7 +25,6 @@ use Rattle.scan.specs.declared.Part.{Part}
 use Rattle.scan.specs.Answer.{word-and, bytesOf, NextWord}
 use Rattle.name.specs.declared.Numbered.{Numbered}
 use Rattle.name.specs.declared.Entry.the-variants.{Number, Full}
-use Rattle.slot.specs.Slots.{slotPlaces}
 use Rattle.slot.specs.Laid.{Laid}
 use Rattle.name.specs.Names.{Numbers, Enters, Room}
 use Rattle.entry.specs.declared.Names.{Names}
@@ -203,7 +202,7 @@ pub record Entering (text store₀ slots₀ refs₀ : List ℕ) (n count bytes s
   pub upto : at ≤ end
   pub within : end ≤ length text
   pub store-long : maxNameBytes ≤ length store
-  pub slots-long : slotPlaces ≤ length slots
+  pub slots-long : maxCategories ≤ length slots
   pub store-kept : length store ≡ length store₀
   pub slots-kept : length slots ≡ length slots₀
   pub refs-kept : length refs ≡ length refs₀

@@ -6,7 +6,7 @@ use mathlib.Core.Bool.{true, cond}
 use mathlib.Core.List.{List, [], _∷_, map}
 use lib.Dec.{leb, ltb}
 use lib.ListN.{length, take, drop}
-use Rattle.paper.specs.Sizes.{maxNameBytes, maxCategoryLines, maxRanges, maxReferences}
+use Rattle.paper.specs.Sizes.{maxCategories, maxNameBytes, maxCategoryLines, maxRanges, maxReferences}
 use Rattle.paper.specs.Refusals.{rangesFull, referencesFull, categoryLinesFull}
 use Rattle.paper.specs.Lists.{same, positionOf, joined}
 use Rattle.paper.specs.CharDef.Line.{Line, blank, category, range}
@@ -17,7 +17,6 @@ use Rattle.paper.specs.Tables.Layout.{definitionBytes, rangeTable, referenceTab
 use Rattle.paper.specs.Tables.Lent.{patch, padded}
 use Rattle.paper.specs.declared.Counts.{Counts}
 use Rattle.scan.specs.Marks.{wordsBytes, gapWidth}
-use Rattle.slot.specs.Slots.{slotPlaces}
 use Rattle.slot.specs.Laid.{Laid}
 use Rattle.entry.specs.declared.Names.{Names}
 use Rattle.entry.specs.declared.NamesStep.{NamesStep}
@@ -54,7 +53,7 @@ enterFoundBytes r (found l) = enterBytes r l
 -- names that stand in a part of the text can be entered, and their numbers have room from place n on
 pub record Ready (store slots refs text : List ℕ) (n count bytes start end : ℕ) : Type 0 where
   pub store-long : maxNameBytes ≤ length store
-  pub slots-long : slotPlaces ≤ length slots
+  pub slots-long : maxCategories ≤ length slots
   pub names : List (List ℕ)
   pub laid : Laid names store slots count bytes
   pub order : start ≤ end
@@ -104,7 +103,7 @@ pub record Working (m : Memory) (c : Counts) : Type 0 where
   pub reading : Reading
   pub held : Held reading m c
   pub store-long : length (m .store) ≡ maxNameBytes
-  pub slots-long : length (m .slots) ≡ slotPlaces
+  pub slots-long : length (m .slots) ≡ maxCategories
   pub definitions-long : length (m .definitions) ≡ definitionSize * maxCategoryLines
   pub ranges-long : length (m .ranges) ≡ rangeSlotSize * maxRanges
   pub references-long : length (m .references) ≡ referenceSize * maxReferences

@@ -13,7 +13,7 @@ use Rattle.paper.specs.Tables.Lent.{padded}
 use Rattle.paper.specs.declared.Counts.{Counts}
 use Rattle.paper.proofs.Tables.Append.{padded-length}
 use Rattle.paper.proofs.Tables.Trip.{tables-is, counts-is}
-use Rattle.slot.specs.Slots.{slotPlaces, written}
+use Rattle.slot.specs.Slots.{written}
 use Rattle.slot.proofs.More.{none-laid}
 use Rattle.slot.proofs.Written.{written-room}
 use Rattle.entry.specs.Steps.{Memory, Held}
@@ -23,7 +23,7 @@ use Rattle.lines.specs.Lines.{WalkEnded}
 -- ---- before
 
 -- zero memory of the sizes holds nothing
-held-nothing : (a b c d e : List ℕ) → a ≡ padded maxNameBytes [] → b ≡ replicate slotPlaces 0 → c ≡ padded (definitionSize * maxCategoryLines) []
+held-nothing : (a b c d e : List ℕ) → a ≡ padded maxNameBytes [] → b ≡ replicate maxCategories 0 → c ≡ padded (definitionSize * maxCategoryLines) []
     → d ≡ padded (rangeSlotSize * maxRanges) [] → e ≡ padded (referenceSize * maxReferences) []
     → Held nothingRead (record { store = a; slots = b; definitions = c; ranges = d; references = e })
     (record { categories = 0; definitions = 0; ranges = 0; references = 0; bytes = 0 })
@@ -64,7 +64,7 @@ module _ {t : Tables} (e : t ≡ inRoom noTables) where
   references-zero = ap (λ u. u .references) e
 
   -- zero tables and zero slots hold nothing
-  pub fill-start : (slots : List ℕ) → slots ≡ replicate slotPlaces 0
+  pub fill-start : (slots : List ℕ) → slots ≡ replicate maxCategories 0
       → Held nothingRead (record { store = t .names; slots = slots; definitions = t .definitions; ranges = t .ranges; references = t .references })
       (record { categories = 0; definitions = 0; ranges = 0; references = 0; bytes = 0 })
   fill-start slots s = held-nothing (t .names) slots (t .definitions) (t .ranges) (t .references) names-zero s definitions-zero ranges-zero references-zero

@@ -1,8 +1,8 @@
 // The lines of a text read into tables of the sizes: the reading's tables, or zero where a line is refused. `char_def` above judges the room and
 // the text before.
 use lines::Walk;
+use paper::MAX_CATEGORIES;
 use paper::Outcome;
-use slot::SLOT_PLACES;
 ghost use mathlib.Core.Path.{_≡_};
 ghost use Prim.Native.Nat.{_≤_};
 ghost use lib.ListN.{length};
@@ -12,7 +12,7 @@ ghost use Rattle.room.specs.Sized.{Sized, noTables, ReadInto};
 ghost use Rattle.lines.specs.Lines.{readAll};
 ghost use Rattle.fill.specs.Filled.{TablesFilled};
 
-// The lines walked over tables of the sizes that hold zero. The category table starts as an array of zero slots and hints, filled by interning, and is
+// The lines walked over tables of the sizes that hold zero. The category table starts as an array of zero slots, filled by interning, and is
 // written out at the end.
 fn fill_tables(
     text: &[u8],
@@ -26,7 +26,7 @@ fn fill_tables(
     requires { ⌜ record { names = now names; categories = now categories; definitions = now definitions; ranges = now ranges; references = now references } ≡ inRoom noTables ⌝ }
     ensures { λ r. ⌜ TablesFilled (readAll (now (text .entry))) (record { names = now (names .exit); categories = now (categories .exit); definitions = now (definitions .exit); ranges = now (ranges .exit); references = now (references .exit) }) r ⌝ }
 {
-    let mut slots = [0u32; SLOT_PLACES];
+    let mut slots = [0u64; MAX_CATEGORIES];
     match lines::walk_lines(text, names, &mut slots, definitions, ranges, references) {
         Walk::Stopped(refusal) => Walk::Stopped(refusal),
         Walk::Ended(counts) => {

@@ -6,7 +6,7 @@ use native.Mathlib.Omega.{arith}
 use mathlib.Core.Path.{_≡_, sym, ap, _∙_}
 use mathlib.Core.List.{List, map}
 use lib.ListN.{length, take, drop}
-use Rattle.paper.specs.Sizes.{maxTextBytes, maxNameBytes, maxCategoryLines, maxRanges, maxReferences}
+use Rattle.paper.specs.Sizes.{maxTextBytes, maxCategories, maxNameBytes, maxCategoryLines, maxRanges, maxReferences}
 use Rattle.paper.specs.Lists.{joined, until}
 use Rattle.paper.specs.Numbers.Bytes.{le}
 use Rattle.paper.specs.CharDef.Reading.{Reading, refused, nameBytes, isLF}
@@ -19,7 +19,6 @@ use Rattle.paper.proofs.Tables.Laws.{table-length}
 use Rattle.paper.proofs.Tables.Trip.{rows-length, numbers-length, wide-definition, wide-row, wide-number}
 use Rattle.scan.specs.Asked.{Inside}
 use Rattle.line.specs.Bytes.{lineBytes}
-use Rattle.slot.specs.Slots.{slotPlaces}
 use Rattle.slot.proofs.Laid as laid
 use Rattle.entry.specs.Steps.{Memory, Held, Working, Went, enterFoundBytes}
 use Rattle.lines.specs.Lines.{readBytes, readAll, linesFrom, WalkEnded}
@@ -37,7 +36,7 @@ module _ {r : Reading} {m : Memory} {c : Counts} (z : Held r m c) where
       let d = l .bytes-is in
       ap length (l .stored) ∙ padded-length maxNameBytes (joined (r .names)) (omega arith)
 
-  pub slots-long : length (m .slots) ≡ slotPlaces
+  pub slots-long : length (m .slots) ≡ maxCategories
   slots-long = laid.slots-long (z .names)
 
   pub definitions-long : length (m .definitions) ≡ definitionSize * maxCategoryLines

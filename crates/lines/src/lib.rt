@@ -38,7 +38,7 @@ fn line_end(text: &[u8], start: usize) -> usize
 pub fn walk_lines(
     text: &[u8],
     names: &mut [u8],
-    slots: &mut [u32],
+    slots: &mut [u64],
     definitions: &mut [u8],
     ranges: &mut [u8],
     references: &mut [u8],

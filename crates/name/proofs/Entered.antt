@@ -2,7 +2,7 @@
 -- Assumes nothing.
 use Prim.Native.Nat.{ℕ}
 use mathlib.Core.Path.{_≡_, sym, ap, _∙_}
-use mathlib.Core.List.{List, _++_, map}
+use mathlib.Core.List.{List, map}
 use lib.ListN.{length}
 use Rattle.paper.specs.Sizes.{maxCategories, maxNameBytes}
 use Rattle.paper.specs.Lists.{same, positionOf, joined}
@@ -13,7 +13,7 @@ use Rattle.paper.specs.Tables.Lent.{padded}
 use Rattle.name.specs.declared.Numbered.{Numbered}
 use Rattle.name.specs.declared.Entry.{Entry}
 use Rattle.name.specs.declared.Entry.the-variants.{Number, Full}
-use Rattle.slot.specs.Slots.{slotWord, hintsOf}
+use Rattle.slot.specs.Slots.{slotWord, hintsOf, slotted}
 use Rattle.slot.specs.Laid.{Laid}
 use Rattle.name.specs.Names.{Enters}
 
@@ -35,7 +35,7 @@ enters-one {names} n store₁ slots₁ store₂ slots₂ (Number r) (Number s) z
       sym (ap Number (numbered-is r (s .number) (s .count) (s .bytes) number-is count-is bytes-is)),
       (
         a .laid-now .stored ∙ ap (λ m. padded maxNameBytes (joined m)) e ∙ sym (b .laid-now .stored),
-        a .laid-now .slotted ∙ ap (λ m. padded maxCategories (map slotWord (nameSlots 0 (map length m))) ++ hintsOf m) e ∙ sym (b .laid-now .slotted),
+        a .laid-now .in-slots ∙ ap (λ m. slotted (hintsOf m) (padded maxCategories (map slotWord (nameSlots 0 (map length m))))) e ∙ sym (b .laid-now .in-slots),
       ),
     )
 enters-one {names} n store₁ slots₁ store₂ slots₂ (Number r) (Full k) z f g =

@@ -2,10 +2,10 @@
 -- Assumes nothing.
 use Prim.Native.Nat.{ℕ, _+_, _*_, _≤_, _<_}
 use native.Mathlib.Omega.{arith}
-use mathlib.Core.Path.{_≡_, refl, sym, _∙_}
+use mathlib.Core.Path.{_≡_, refl, sym, _∙_, subst}
 use mathlib.Core.Bool.{true, false}
 use mathlib.Core.List.{List, [], _∷_, _++_, append-nil}
-use lib.ListN.{length, set}
+use lib.ListN.{length}
 use borrow.Author.Tests.{le-leb, lt-leb, lt-ltb, le-ltb}
 use Rattle.paper.specs.Sizes.{maxCategories, maxNameBytes}
 use Rattle.paper.specs.Refusals.{categoriesFull, nameBytesFull}
@@ -17,7 +17,7 @@ use Rattle.name.specs.declared.Numbered.{Numbered}
 use Rattle.seek.specs.declared.Found.the-variants.{At, Nothing}
 use Rattle.seek.specs.Finds.{Finds}
 use Rattle.slot.specs.Slots.{slotUnit, hintOf}
-use Rattle.slot.specs.Laid.{Laid}
+use Rattle.slot.specs.Laid.{Laid, Added}
 use Rattle.name.specs.Names.{Numbers, Refuses}
 use Rattle.slot.proofs.More.{any-more, place-more, laid-more}
 
@@ -59,14 +59,14 @@ module _ {names : List (List ℕ)} {store slots : List ℕ} {count bytes : ℕ} 
       }
 
   pub enters-new : Finds names n Nothing → count < maxCategories → bytes + length n ≤ maxNameBytes
-      → (store₁ slots₁ : List ℕ) → store₁ ≡ patch bytes n store → slots₁ ≡ set (set slots count (bytes * slotUnit + length n)) (maxCategories + hintOf n) count
+      → (store₁ slots₁ : List ℕ) → store₁ ≡ patch bytes n store → (len : ℕ) → len ≡ length n → Added slots count (bytes * slotUnit + len) (hintOf n) slots₁
       → (r : Numbered) → r .number ≡ count → r .count ≡ count + 1 → r .bytes ≡ bytes + length n
       → Numbers names n store₁ slots₁ r
-  enters-new t g k store₁ slots₁ p q r e f d =
+  enters-new t g k store₁ slots₁ p len l q r e f d =
       record {
         now-names = names ++ (n ∷ []);
         entered = intern-new names n t (omega (arith, z .count-is)) (omega (arith, z .bytes-is));
-        laid-now = rw (p, q, f, d) (laid-more n z t g k);
+        laid-now = rw (p, f, d) (laid-more n z t g k slots₁ (subst (λ j. Added slots count (bytes * slotUnit + j) (hintOf n) slots₁) l q));
         there = any-more n names;
         number-is = e ∙ z .count-is ∙ place-more n names t;
         more = n ∷ [];

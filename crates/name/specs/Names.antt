@@ -8,7 +8,6 @@ use lib.ListN.{length}
 use Rattle.paper.specs.Sizes.{maxCategories, maxNameBytes}
 use Rattle.paper.specs.Lists.{any, same, positionOf}
 use Rattle.paper.specs.Computed.ReadText.{internOne, names-are, full-at}
-use Rattle.slot.specs.Slots.{slotPlaces}
 use Rattle.slot.specs.Laid.{Laid}
 use Rattle.name.specs.declared.Numbered.{Numbered}
 use Rattle.name.specs.declared.Entry.{Entry}
@@ -17,7 +16,7 @@ use Rattle.name.specs.declared.Entry.the-variants.{Number, Full}
 -- what the reader keeps: room of the full sizes, counts within them, and a part of the text
 pub record Room (store slots text : List ℕ) (count bytes start end : ℕ) : Type 0 where
   pub store-long : maxNameBytes ≤ length store
-  pub slots-long : slotPlaces ≤ length slots
+  pub slots-long : maxCategories ≤ length slots
   pub count-small : count ≤ maxCategories
   pub bytes-small : bytes ≤ maxNameBytes
   pub order : start ≤ end

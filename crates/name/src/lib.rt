@@ -39,7 +39,7 @@ fn copy_in(names: &mut [u8], at: usize, text: &[u8], start: usize, end: usize)
 // The number of the name that stands in the text from `start` to `end`; a new name is entered behind the others. 12 before 13.
 pub fn category_id(
     names: &mut [u8],
-    slots: &mut [u32],
+    slots: &mut [u64],
     count: usize,
     bytes: usize,
     text: &[u8],

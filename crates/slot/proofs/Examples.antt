@@ -20,6 +20,6 @@ pub places : map hintOf names ≡ 65 ∷ 41 ∷ []
 unfolding bytesOf hintOf mark markAfter
 places = refl
 
-pub hints : map (λ k. getD (hintsOf names) k 7) (41 ∷ 42 ∷ 65 ∷ 1023 ∷ 1024 ∷ []) ≡ 1 ∷ 0 ∷ 0 ∷ 0 ∷ 7 ∷ []
+pub hints : map (λ k. getD (hintsOf names) k 7) (41 ∷ 42 ∷ 65 ∷ 511 ∷ 512 ∷ []) ≡ 1 ∷ 0 ∷ 0 ∷ 0 ∷ 7 ∷ []
 unfolding bytesOf hintsOf hinted hintOf mark markAfter
 hints = refl

@@ -24,9 +24,9 @@ use Rattle.paper.proofs.Lists.Seen.{same-eq, same-refl}
 use Rattle.paper.proofs.Tables.Append.{padded-length}
 use Rattle.paper.proofs.Tables.Trip.{places-length}
 use Rattle.seek.specs.declared.Found.the-variants.{At, Nothing}
-use Rattle.slot.specs.Slots.{slotUnit, slotWord, wordSlot, slotPlaces, hintsOf}
+use Rattle.slot.specs.Slots.{slotUnit, hintUnit, slotWord, slotOf, wordSlot, hintsOf}
 use Rattle.slot.specs.Laid.{Laid, Tells, FindsIn}
-use Rattle.slot.proofs.Hints.{hints-length}
+use Rattle.slot.proofs.Hints.{hints-length, slotted-length, slotted-at}
 use Rattle.seek.proofs.Compare.{unlike, differs}
 use Rattle.seek.proofs.Search.{Searching, search-start, search-hit, search-on, search-done}
 
@@ -40,10 +40,10 @@ record Says (store : List ℕ) (slot : ℕ) (name : List ℕ) : Type 0 where
   long : slot % slotUnit ≡ length name
   is : nameIn store (wordSlot slot) ≡ name
 
-first-says : (before x rest : List ℕ) → length x < slotUnit → Says (before ++ (x ++ rest)) (length before * slotUnit + length x) x
-first-says before x rest h =
+first-says : (before x rest : List ℕ) → length before < slotUnit → length x < slotUnit → Says (before ++ (x ++ rest)) (length before * slotUnit + length x) x
+first-says before x rest g h =
     let a : (length before * slotUnit + length x) % slotUnit ≡ length x = omega arith in
-    let b : (length before * slotUnit + length x) / slotUnit ≡ length before = omega arith in
+    let b : (length before * slotUnit + length x) % hintUnit / slotUnit ≡ length before = omega arith in
     record {
       long = a;
       is = ap₂ (λ m k. take m (drop k (before ++ (x ++ rest)))) a b
@@ -51,44 +51,50 @@ first-says before x rest h =
           ∙ take-at x rest (length x) refl;
     }
 
-each-says : (before : List ℕ) (names : List (List ℕ)) (rest : List ℕ) (i : ℕ) → nameBytes names < slotUnit → i < length names
+each-says : (before : List ℕ) (names : List (List ℕ)) (rest : List ℕ) (i : ℕ) → length before + nameBytes names < slotUnit → i < length names
     → Says (before ++ (joined names ++ rest)) (getD (map slotWord (nameSlots (length before) (map length names))) i 0) (getD names i [])
 unfolding nameBytes nameSlots
 each-says before [] rest i h lt = absurd (omega arith)
 each-says before (x ∷ names) rest zero h lt =
-    let g : length x + sum (map length names) < slotUnit = h in
-    rw (append-assoc x (joined names) rest) (first-says before x (joined names ++ rest) (omega arith))
+    let g : length before + (length x + sum (map length names)) < slotUnit = h in
+    rw (append-assoc x (joined names) rest) (first-says before x (joined names ++ rest) (omega arith) (omega arith))
 each-says before (x ∷ names) rest (suc i) h lt =
-    let g : length x + sum (map length names) < slotUnit = h in
+    let g : length before + (length x + sum (map length names)) < slotUnit = h in
+    let l = length-append before x in
     rw (append-assoc x (joined names) rest, ← append-assoc before x (joined names ++ rest), ← length-append before x)
     (each-says (before ++ x) names rest i (omega arith) (omega arith))
+
+-- whatever stands above a word, it says the same
+says-below : {store : List ℕ} (hint word : ℕ) {name : List ℕ} → Says store word name → Says store (slotOf hint word) name
+says-below {store} hint word z =
+    let a : slotOf hint word % slotUnit ≡ word % slotUnit = omega arith in
+    let b : slotOf hint word % hintUnit / slotUnit ≡ word % hintUnit / slotUnit = omega arith in
+    record { long = a ∙ z .long; is = ap₂ (λ m k. take m (drop k store)) a b ∙ z .is }
 
 module _ {names : List (List ℕ)} {store slots : List ℕ} {count bytes : ℕ} (z : Laid names store slots count bytes) where
   words-few : length (map slotWord (nameSlots 0 (map length names))) ≤ maxCategories
   words-few = let c = z .count-is in let f = z .few in omega (arith, slots-length names)
 
-  pub front-long : length (padded maxCategories (map slotWord (nameSlots 0 (map length names)))) ≡ maxCategories
-  front-long = padded-length maxCategories (map slotWord (nameSlots 0 (map length names))) words-few
+  pub words-long : length (padded maxCategories (map slotWord (nameSlots 0 (map length names)))) ≡ maxCategories
+  words-long = padded-length maxCategories (map slotWord (nameSlots 0 (map length names))) words-few
 
-  pub slots-long : length slots ≡ slotPlaces
+  pub slots-long : length slots ≡ maxCategories
   slots-long =
-      ap length (z .slotted) ∙ length-append (padded maxCategories (map slotWord (nameSlots 0 (map length names)))) (hintsOf names)
-      ∙ ap₂ (λ a b. a + b) front-long (hints-length names)
-
-  pub slots-front : take maxCategories slots ≡ padded maxCategories (map slotWord (nameSlots 0 (map length names)))
-  slots-front =
-      ap (take maxCategories) (z .slotted) ∙ take-at (padded maxCategories (map slotWord (nameSlots 0 (map length names)))) (hintsOf names) maxCategories front-long
+      ap length (z .in-slots)
+      ∙ slotted-length (hintsOf names) (padded maxCategories (map slotWord (nameSlots 0 (map length names)))) (hints-length names ∙ sym words-long)
+      ∙ words-long
 
   module _ (i : ℕ) (lt : i < count) where
-    word-at : getD slots i 0 ≡ getD (map slotWord (nameSlots 0 (map length names))) i 0
+    word-at : getD slots i 0 ≡ slotOf (getD (hintsOf names) i 0) (getD (map slotWord (nameSlots 0 (map length names))) i 0)
     unfolding padded
     word-at =
         let c = z .count-is in
         let f = z .few in
         let l = slots-length names in
-        ap (λ m. getD m i 0) (z .slotted)
-        ∙ List·getD-append (padded maxCategories (map slotWord (nameSlots 0 (map length names)))) (hintsOf names) 0 i (omega (arith, front-long))
-        ∙ List·getD-append (map slotWord (nameSlots 0 (map length names))) _ 0 i (omega arith)
+        let h = hints-length names in
+        ap (λ m. getD m i 0) (z .in-slots)
+        ∙ slotted-at (hintsOf names) (padded maxCategories (map slotWord (nameSlots 0 (map length names)))) i (omega arith) (omega (arith, words-long))
+        ∙ ap (slotOf (getD (hintsOf names) i 0)) (List·getD-append (map slotWord (nameSlots 0 (map length names))) _ 0 i (omega arith))
 
     slot-says : Says store (getD slots i 0) (getD names i [])
     unfolding padded
@@ -96,13 +102,13 @@ module _ {names : List (List ℕ)} {store slots : List ℕ} {count bytes : ℕ} 
         let c = z .count-is in
         let b = z .bytes-is in
         let s = z .short in
-        rw (z .stored, word-at) (each-says [] names _ i (omega arith) (omega arith))
+        rw (z .stored, word-at) (says-below (getD (hintsOf names) i 0) (getD (map slotWord (nameSlots 0 (map length names))) i 0) (each-says [] names _ i (omega arith) (omega arith)))
 
 -- ---- one name
 
 module _ (store slots n : List ℕ) (i : ℕ) where
   -- bytes that are not there, as many as are sought: a name of that length is another one
-  pub tells-bytes : (at : ℕ) → at ≡ getD slots i 0 / slotUnit → (len : ℕ) → len ≡ length n → (r : Bool) → r ≡ same n (take len (drop at store)) → r ≡ false
+  pub tells-bytes : (at : ℕ) → at ≡ getD slots i 0 % hintUnit / slotUnit → (len : ℕ) → len ≡ length n → (r : Bool) → r ≡ same n (take len (drop at store)) → r ≡ false
       → Tells store slots n i false
   tells-bytes at a len whole r e h names count bytes z lt =
       let s = slot-says z i lt in
@@ -114,7 +120,7 @@ module _ (store slots n : List ℕ) (i : ℕ) where
       ∙ sym e ∙ h))
 
   -- bytes that are there, as many as are sought: its length decides
-  pub tells-length : (at : ℕ) → at ≡ getD slots i 0 / slotUnit → (len : ℕ) → len ≡ length n → (r : Bool) → r ≡ same n (take len (drop at store)) → r ≡ true
+  pub tells-length : (at : ℕ) → at ≡ getD slots i 0 % hintUnit / slotUnit → (len : ℕ) → len ≡ length n → (r : Bool) → r ≡ same n (take len (drop at store)) → r ≡ true
       → (k : ℕ) → k ≡ getD slots i 0 % slotUnit → Tells store slots n i (eqb k len)
   tells-length at a len whole r e h k f names count bytes z lt = go (ℕ-discrete k len)
     where

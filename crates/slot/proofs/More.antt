@@ -1,14 +1,13 @@
 -- No name yet, and one name more: its bytes behind those of the others, its slot behind theirs, and its hint.
 -- Assumes nothing.
-use Prim.Native.Nat.{ℕ, zero, suc, _+_, _*_, _≤_, _<_}
+use Prim.Native.Nat.{ℕ, zero, suc, _+_, _*_, _-_, _/_, _%_, _≤_, _<_}
 use native.Mathlib.Decide.{ℕ-discrete}
-use native.Mathlib.Nat.{suc-add}
 use native.Mathlib.Omega.{arith}
 use mathlib.Core.Path.{_≡_, refl, sym, ap, ap₂, _∙_}
 use mathlib.Core.Bool.{Bool, true, false, cond, _||_}
 use mathlib.Core.List.{List, [], _∷_, _++_, map}
-use lib.ListN.{length, getD, set, replicate, length-append, length-set, List·getD-append, replicate-append-replicate}
-use lib.Seq.{getD-append-seam, set-append-left}
+use lib.ListN.{length, getD, set, replicate, length-append, length-set, List·getD-append}
+use lib.Seq.{getD-append-seam}
 use Rattle.paper.specs.Sizes.{maxCategories, maxNameBytes}
 use Rattle.paper.specs.Lists.{any, same, positionOf, joined, sum}
 use Rattle.paper.specs.CharDef.Reading.{nameBytes}
@@ -18,15 +17,15 @@ use Rattle.paper.proofs.Lists.Facts.{T→true, true→T, joined-length, joined-
 use Rattle.paper.proofs.Lists.Seen.{same-eq, same-refl, position-stays}
 use Rattle.paper.proofs.Tables.Laws.{patch-in}
 use Rattle.paper.proofs.Tables.Append.{patch-padded, padded-length, padded-none}
-use Rattle.slot.specs.Slots.{slotUnit, slotWord, slotPlaces, hintCount, hintOf, hintsOf}
-use Rattle.slot.specs.Laid.{Laid}
-use Rattle.slot.proofs.Hints.{hints-none, hints-snoc}
-use Rattle.slot.proofs.Laid.{slots-length, front-long, any-at}
+use Rattle.slot.specs.Slots.{slotUnit, hintUnit, slotWord, slotOf, withWord, withHint, hintOf, hintsOf, slotted}
+use Rattle.slot.specs.Laid.{Laid, Added}
+use Rattle.slot.proofs.Hints.{hints-length, hints-none, hints-snoc, hint-small, slotted-at, set-word, set-hint, slotted-zero}
+use Rattle.slot.proofs.Laid.{slots-length, words-long, any-at}
 
 -- ---- no name yet
 
 -- zero bytes and zero slots hold no name: where a reader starts
-pub none-laid : (store slots : List ℕ) → store ≡ padded maxNameBytes [] → slots ≡ replicate slotPlaces 0 → Laid [] store slots 0 0
+pub none-laid : (store slots : List ℕ) → store ≡ padded maxNameBytes [] → slots ≡ replicate maxCategories 0 → Laid [] store slots 0 0
 unfolding nameBytes nameSlots
 none-laid store slots p q =
     record {
@@ -36,7 +35,7 @@ none-laid store slots p q =
       short = omega arith;
       single = λ i lt. absurd (omega arith);
       stored = p;
-      slotted = q ∙ sym (replicate-append-replicate maxCategories hintCount 0) ∙ ap₂ (λ a b. a ++ b) (padded-none maxCategories) hints-none;
+      in-slots = q ∙ slotted-zero maxCategories ∙ ap₂ slotted hints-none (padded-none maxCategories);
     }
 
 -- ---- the new name's number
@@ -116,35 +115,76 @@ slots-more size names n h =
     ∙ sym (slots-snoc 0 (map length names) (length n))
     ∙ ap (λ m. map slotWord (nameSlots 0 m)) (sym (lengths-snoc names n)))
 
-set-behind : (xs ys : List ℕ) (k v : ℕ) → set (xs ++ ys) (length xs + k) v ≡ xs ++ set ys k v
-set-behind [] ys k v = let e : 0 + k ≡ k = omega arith in ap (λ i. set ys i v) e
-set-behind (x ∷ xs) ys k v = ap (λ i. set (x ∷ xs ++ ys) i v) (suc-add (length xs) k) ∙ ap (λ l. x ∷ l) (set-behind xs ys k v)
+-- every word stays below the hints
+word-small : (at : ℕ) (ls : List ℕ) (i : ℕ) → at + sum ls < slotUnit → getD (map slotWord (nameSlots at ls)) i 0 < hintUnit
+unfolding nameSlots
+word-small at [] i h = omega arith
+word-small at (l ∷ ls) zero h = let g : at + (l + sum ls) < slotUnit = h in omega arith
+word-small at (l ∷ ls) (suc i) h = let g : at + (l + sum ls) < slotUnit = h in word-small (at + l) ls i (omega arith)
 
--- THE THEOREM: bytes, slot and hint written, the store and the slots hold one name more
+zero-small : (n i : ℕ) → getD (replicate n 0) i 0 < hintUnit
+zero-small zero i = omega arith
+zero-small (suc n) zero = omega arith
+zero-small (suc n) (suc i) = zero-small n i
+
+behind-small : (l : List ℕ) (n : ℕ) → ((i : ℕ) → getD l i 0 < hintUnit) → (i : ℕ) → getD (l ++ replicate n 0) i 0 < hintUnit
+behind-small [] n f i = zero-small n i
+behind-small (x ∷ l) n f zero = f 0
+behind-small (x ∷ l) n f (suc i) = behind-small l n (λ k. f (suc k)) i
+
+words-small : (names : List (List ℕ)) (i : ℕ) → nameBytes names < slotUnit → getD (padded maxCategories (map slotWord (nameSlots 0 (map length names)))) i 0 < hintUnit
+unfolding padded nameBytes
+words-small names i h = behind-small (map slotWord (nameSlots 0 (map length names))) (maxCategories - length (map slotWord (nameSlots 0 (map length names)))) (λ k. word-small 0 (map length names) k (omega arith)) i
+
+-- a word put and then a hint
+pub added : (slots middle after : List ℕ) (count v word p place : ℕ) → middle ≡ set slots count (withWord v (getD slots count 0)) → v ≡ word
+    → after ≡ set middle p (withHint count (getD middle p 0)) → p ≡ place → Added slots count word place after
+added slots middle after count v word p place a e b f m h =
+    b ∙ ap₂ (λ x k. set x k (withHint count (getD x k 0))) (a ∙ ap (λ w. set slots count (withWord w (getD slots count 0))) e ∙ sym h) f
+
+-- THE THEOREM: bytes, word and hint written, the store and the slots hold one name more
 module _ {names : List (List ℕ)} {store slots : List ℕ} {count bytes : ℕ} (n : List ℕ) (z : Laid names store slots count bytes) (new : any (same n) names ≡ false)
     (few : count < maxCategories) (short : bytes + length n ≤ maxNameBytes) where
-  abbrev front : List ℕ
-  front = padded maxCategories (map slotWord (nameSlots 0 (map length names)))
+  abbrev words : List ℕ
+  words = padded maxCategories (map slotWord (nameSlots 0 (map length names)))
 
-  slots-now : set (set slots count (bytes * slotUnit + length n)) (maxCategories + hintOf n) count
-      ≡ padded maxCategories (map slotWord (nameSlots 0 (map length (names ++ (n ∷ []))))) ++ hintsOf (names ++ (n ∷ []))
-  slots-now =
+  abbrev words-now : List ℕ
+  words-now = padded maxCategories (map slotWord (nameSlots 0 (map length (names ++ (n ∷ [])))))
+
+  word-put : set slots count (withWord (bytes * slotUnit + length n) (getD slots count 0)) ≡ slotted (hintsOf names) words-now
+  word-put =
       let c = z .count-is in
       let b = z .bytes-is in
-      let f = front-long z in
-      let now : List ℕ = padded maxCategories (map slotWord (nameSlots 0 (map length (names ++ (n ∷ []))))) in
-      let slot : set slots count (bytes * slotUnit + length n) ≡ now ++ hintsOf names =
-      ap₂ (λ l v. set l count (v * slotUnit + length n)) (z .slotted) b
-      ∙ set-append-left front (hintsOf names) count (nameBytes names * slotUnit + length n) (omega arith)
-      ∙ ap (λ k. set front k (nameBytes names * slotUnit + length n) ++ hintsOf names) c
-      ∙ ap (λ l. l ++ hintsOf names) (slots-more maxCategories names n (omega arith)) in
-      let l : length now ≡ maxCategories = ap length (sym (slots-more maxCategories names n (omega arith))) ∙ length-set front (length names) _ ∙ f in
-      ap₂ (λ x k. set x (k + hintOf n) count) slot (sym l)
-      ∙ set-behind now (hintsOf names) (hintOf n) count
-      ∙ ap (λ x. now ++ x) (ap (set (hintsOf names) (hintOf n)) c ∙ sym (hints-snoc names n))
+      let l = words-long z in
+      let h = hints-length names in
+      let s = words-small names count (omega arith) in
+      let old : getD slots count 0 ≡ slotOf (getD (hintsOf names) count 0) (getD words count 0) =
+      ap (λ m. getD m count 0) (z .in-slots) ∙ slotted-at (hintsOf names) words count (omega arith) (omega arith) in
+      let hint : getD slots count 0 / hintUnit ≡ getD (hintsOf names) count 0 = omega arith in
+      ap₂ (λ m k. set m count (slotOf k (bytes * slotUnit + length n))) (z .in-slots) hint
+      ∙ set-word (hintsOf names) words count (bytes * slotUnit + length n) (omega arith) (omega arith)
+      ∙ ap (slotted (hintsOf names))
+      (ap₂ (λ k m. set words k (m * slotUnit + length n)) c b ∙ slots-more maxCategories names n (omega arith))
 
-  pub laid-more : Laid (names ++ (n ∷ [])) (patch bytes n store) (set (set slots count (bytes * slotUnit + length n)) (maxCategories + hintOf n) count) (count + 1) (bytes + length n)
-  laid-more =
+  hint-put : (middle : List ℕ) → middle ≡ slotted (hintsOf names) words-now
+      → set middle (hintOf n) (withHint count (getD middle (hintOf n) 0)) ≡ slotted (hintsOf (names ++ (n ∷ []))) words-now
+  hint-put middle e =
+      let c = z .count-is in
+      let b = z .bytes-is in
+      let h = hints-length names in
+      let p = hint-small n in
+      let l : length words-now ≡ maxCategories = ap length (sym (slots-more maxCategories names n (omega arith))) ∙ length-set words (length names) _ ∙ words-long z in
+      let s = words-small (names ++ (n ∷ [])) (hintOf n) (omega (arith, bytes-snoc names n)) in
+      let old : getD middle (hintOf n) 0 ≡ slotOf (getD (hintsOf names) (hintOf n) 0) (getD words-now (hintOf n) 0) =
+      ap (λ m. getD m (hintOf n) 0) e ∙ slotted-at (hintsOf names) words-now (hintOf n) (omega arith) (omega arith) in
+      let word : getD middle (hintOf n) 0 % hintUnit ≡ getD words-now (hintOf n) 0 = omega arith in
+      ap₂ (λ m w. set m (hintOf n) (slotOf count w)) e word
+      ∙ set-hint (hintsOf names) words-now (hintOf n) count (omega arith) (omega arith)
+      ∙ ap (λ hs. slotted hs words-now) (ap (set (hintsOf names) (hintOf n)) c ∙ sym (hints-snoc names n))
+
+  pub laid-more : (after : List ℕ) → Added slots count (bytes * slotUnit + length n) (hintOf n) after
+      → Laid (names ++ (n ∷ [])) (patch bytes n store) after (count + 1) (bytes + length n)
+  laid-more after f =
       let c = z .count-is in
       let b = z .bytes-is in
       let l : length (names ++ (n ∷ [])) ≡ length names + 1 = length-append names (n ∷ []) in
@@ -156,5 +196,5 @@ module _ {names : List (List ℕ)} {store slots : List ℕ} {count bytes : ℕ} 
         short = short;
         single = single-more n names new (z .single);
         stored = ap₂ (λ x y. patch x n y) b (z .stored) ∙ store-more maxNameBytes names n (omega arith);
-        slotted = slots-now;
+        in-slots = f _ refl ∙ hint-put _ word-put;
       }

@@ -9,7 +9,7 @@ use mathlib.Core.Bool.{cond}
 use mathlib.Core.List.{List, [], _∷_, _++_, map}
 use lib.Dec.{leb}
 use lib.ListN.{length, take, drop, getD, replicate}
-use lib.Seq.{length-take-le, take-suc}
+use lib.Seq.{length-take-le, take-suc, take-all}
 use borrow.Author.Tests.{le-leb, lt-leb}
 use Rattle.paper.specs.Sizes.{maxCategories}
 use Rattle.paper.specs.Lists.{joined, sum}
@@ -21,9 +21,10 @@ use Rattle.paper.specs.Tables.Lent.{patch, padded}
 use Rattle.paper.proofs.Tables.Laws.{table-length, patch-in, patch-out, patch-length}
 use Rattle.paper.proofs.Tables.Append.{patch-patch, table-append, table-snoc}
 use Rattle.paper.proofs.Tables.Trip.{wide-place}
-use Rattle.slot.specs.Slots.{slotUnit, slotWord, wordSlot, slotPlaces, written}
+use Rattle.slot.specs.Slots.{slotUnit, hintUnit, slotWord, slotOf, wordSlot, hintsOf, written}
 use Rattle.slot.specs.Laid.{Laid}
-use Rattle.slot.proofs.Laid.{slots-length, slots-long, slots-front}
+use Rattle.slot.proofs.Hints.{hints-length, slotted-map}
+use Rattle.slot.proofs.Laid.{slots-length, words-long, slots-long}
 
 abbrev entryBytes : ℕ → List ℕ
 entryBytes s = nameSlotBytes (wordSlot s)
@@ -64,7 +65,7 @@ pub write-start : (m : ℕ) (slots table : List ℕ) → m ≤ length slots → 
 write-start m slots table h g = record { upto = omega arith; enough = h; room = g; long = refl; is = patch-in 0 [] table (omega arith) }
 
 module _ {m : ℕ} {slots table₀ table : List ℕ} {i : ℕ} (z : Writing m slots table₀ table i) (lt : i < m) where
-  pub write-on : (at start len : ℕ) (table₁ table₂ : List ℕ) → at ≡ nameSlotSize * i → start ≡ getD slots i 0 / slotUnit → len ≡ getD slots i 0 % slotUnit
+  pub write-on : (at start len : ℕ) (table₁ table₂ : List ℕ) → at ≡ nameSlotSize * i → start ≡ getD slots i 0 % hintUnit / slotUnit → len ≡ getD slots i 0 % slotUnit
       → table₁ ≡ patch at (le 2 start) table → table₂ ≡ patch (at + 2) (le 2 len) table₁ → Writing m slots table₀ table₂ (i + 1)
   write-on at start len table₁ table₂ a p q e f =
       let n = z .enough in
@@ -98,13 +99,13 @@ write-done {slots} {table₀} {table} {i} z h =
 
 -- ---- slots that hold names
 
-entries-back : (at : ℕ) (names : List (List ℕ)) → nameBytes names < slotUnit
+entries-back : (at : ℕ) (names : List (List ℕ)) → at + nameBytes names < slotUnit
     → joined (map entryBytes (map slotWord (nameSlots at (map length names)))) ≡ joined (map nameSlotBytes (nameSlots at (map length names)))
 unfolding nameBytes nameSlots
 entries-back at [] h = refl
 entries-back at (x ∷ names) h =
-    let g : length x + sum (map length names) < slotUnit = h in
-    let a : (at * slotUnit + length x) / slotUnit ≡ at = omega arith in
+    let g : at + (length x + sum (map length names)) < slotUnit = h in
+    let a : (at * slotUnit + length x) % hintUnit / slotUnit ≡ at = omega arith in
     let b : (at * slotUnit + length x) % slotUnit ≡ length x = omega arith in
     ap₂ (λ e l. e ++ l) (ap₂ (λ s n. le 2 s ++ le 2 n) a b) (entries-back (at + length x) names (omega arith))
 
@@ -122,12 +123,19 @@ module _ (m : ℕ) (names : List (List ℕ)) (few : length names ≤ m) (short :
   unfolding padded
   all-entries =
       let n = slots-length names in
-      let b = entries-back 0 names short in
+      let b = entries-back 0 names (omega arith) in
       let l : length (joined (map entryBytes words)) ≡ nameSlotSize * length words = table-length nameSlotSize entryBytes wide-entry words in
       let l′ : length (joined (map nameSlotBytes (nameSlots 0 (map length names)))) ≡ nameSlotSize * length words = ap length (sym b) ∙ l in
       let e : nameSlotSize * (m - length words) ≡ nameSlotSize * m - length (joined (map nameSlotBytes (nameSlots 0 (map length names)))) = omega arith in
       table-append entryBytes words (replicate (m - length words) 0)
       ∙ ap₂ (λ x y. x ++ y) b (zero-entries (m - length words) ∙ ap (λ k. replicate k 0) e)
+
+-- an entry does not say the hint
+below-hint : (hint word : ℕ) → entryBytes (slotOf hint word) ≡ entryBytes word
+below-hint hint word =
+    let a : slotOf hint word % hintUnit / slotUnit ≡ word % hintUnit / slotUnit = omega arith in
+    let b : slotOf hint word % slotUnit ≡ word % slotUnit = omega arith in
+    ap₂ (λ s n. le 2 s ++ le 2 n) a b
 
 at-front : (p l : List ℕ) (n : ℕ) → length p ≡ n → n ≤ length l → patch 0 p l ≡ p ++ drop n l
 unfolding patch
@@ -145,10 +153,11 @@ written-room r store slots count bytes table z h =
     let b = z .bytes-is in
     let f = z .few in
     let s = z .short in
-    let l : length slots ≡ slotPlaces = slots-long z in
-    let a = slots-front z in
+    let l : length slots ≡ maxCategories = slots-long z in
     let e : joined (map entryBytes (take maxCategories slots)) ≡ padded (nameSlotSize * maxCategories) (joined (map nameSlotBytes (nameSlots 0 (map length (r .names))))) =
-    ap (λ l. joined (map entryBytes l)) a ∙ all-entries maxCategories (r .names) (omega arith) (omega arith) in
+    ap (λ m. joined (map entryBytes m)) (take-all maxCategories slots (omega arith) ∙ z .in-slots)
+    ∙ ap joined (slotted-map entryBytes below-hint (hintsOf (r .names)) _ (hints-length (r .names) ∙ sym (words-long z)))
+    ∙ all-entries maxCategories (r .names) (omega arith) (omega arith) in
     picked maxCategories (length slots) (patch 0 (joined (map entryBytes (take maxCategories slots))) table) table (omega arith)
     ∙ at-front (joined (map entryBytes (take maxCategories slots))) table (nameSlotSize * maxCategories) (entries-length maxCategories slots (omega arith)) h
     ∙ ap (λ p. p ++ drop (nameSlotSize * maxCategories) table) e

@@ -1,5 +1,5 @@
--- A category slot while a text is read: one number that says where a name stands in the store of name bytes and how long it is; and the
--- hints behind the slots, by which a name is found without trying all.
+-- A category slot while a text is read: one number that says where a name stands in the store of name bytes and how long it is, and above
+-- that a hint, by which a name is found without trying all.
 -- Assumes nothing.
 use Prim.Native.Nat.{ℕ, suc, _+_, _*_, _/_, _%_}
 use mathlib.Core.Bool.{cond}
@@ -16,22 +16,31 @@ use Rattle.mark.specs.Mark.{mark}
 abbrev pub slotUnit : ℕ
 slotUnit = 65536
 
+-- and a name's word below this
+abbrev pub hintUnit : ℕ
+hintUnit = 4294967296
+
+-- where a name stands, and a slot with it below a hint
 abbrev pub slotWord : NameSlot → ℕ
 slotWord p = p .start * slotUnit + p .len
 
+abbrev pub slotOf : (hint word : ℕ) → ℕ
+slotOf hint word = hint * hintUnit + word
+
+-- what a slot says
 abbrev pub wordSlot : ℕ → NameSlot
-wordSlot s = record { start = s / slotUnit; len = s % slotUnit }
+wordSlot s = record { start = s % hintUnit / slotUnit; len = s % slotUnit }
 
--- as many hints; they stand behind the slots
-abbrev pub hintCount : ℕ
-hintCount = 1024
+-- a slot with another word, and with another hint
+abbrev pub withWord : (word s : ℕ) → ℕ
+withWord word s = slotOf (s / hintUnit) word
 
-abbrev pub slotPlaces : ℕ
-slotPlaces = maxCategories + hintCount
+abbrev pub withHint : (hint s : ℕ) → ℕ
+withHint hint s = slotOf hint (s % hintUnit)
 
--- where among the hints that of a name stands
+-- the slot that holds the hint of a name
 unfoldable pub hintOf : List ℕ → ℕ
-hintOf n = mark n % hintCount
+hintOf n = mark n % maxCategories
 
 -- the hints of names from number i on, each name's number at its place: of names with one place, the last one's
 unfoldable pub hinted : ℕ → List (List ℕ) → List ℕ → List ℕ
@@ -40,7 +49,13 @@ hinted i (n ∷ ns) hints = hinted (suc i) ns (set hints (hintOf n) i)
 
 unfoldable pub hintsOf : List (List ℕ) → List ℕ
 unfolding hinted
-hintsOf names = hinted 0 names (replicate hintCount 0)
+hintsOf names = hinted 0 names (replicate maxCategories 0)
+
+-- hints and words, place by place
+unfoldable pub slotted : (hints words : List ℕ) → List ℕ
+slotted [] words = []
+slotted (h ∷ hints) [] = []
+slotted (h ∷ hints) (w ∷ words) = slotOf h w ∷ slotted hints words
 
 -- the category table with all slots written out from its front; as it was where there are not 512 slots or it has no room for them
 unfoldable pub written : (slots table : List ℕ) → List ℕ

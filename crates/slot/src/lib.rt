@@ -1,49 +1,57 @@
 // The names that were read so far in a text: all their bytes stand in one store, one behind another, and a slot for each name says
-// where. Behind the slots stand hints, by which a name is found without trying all. All slots are written out in the end.
+// where. Each slot has room for a hint besides, by which a name is found without trying all. All slots are written out in the end.
 use paper::MAX_CATEGORIES;
 use seek::Found;
 use table::CATEGORY_BYTES;
 use table::NAME_LENGTH_AT;
 ghost use mathlib.Core.Path.{_≡_};
 ghost use Prim.Native.Nat.{_+_, _*_, _-_, _/_, _%_, _≤_, _<_};
-ghost use lib.ListN.{length, take, drop, set};
+ghost use lib.ListN.{length, take, drop, getD, set};
 ghost use Rattle.paper.specs.Sizes.{maxCategories, maxNameBytes};
-ghost use Rattle.slot.specs.Slots.{slotUnit, slotPlaces, hintOf, written};
-ghost use Rattle.slot.specs.Laid.{Sought, Tells, FindsIn};
+ghost use Rattle.slot.specs.Slots.{slotUnit, hintUnit, withWord, withHint, hintOf, written};
+ghost use Rattle.slot.specs.Laid.{Sought, Tells, FindsIn, Added};
 
-// While a text is read a slot is one number, start * SLOT_UNIT + length, and 0 where it is unused.
-const SLOT_UNIT: u32 = 65536;
+// While a text is read a slot is one number, hint * HINT_UNIT + start * SLOT_UNIT + length; start and length are 0 where no name has it.
+const SLOT_UNIT: u64 = 65536;
 
-// A hint is the number of a name that has its place. It is tried and never believed: where it is another name's, all slots are looked
-// at. Twice as many as names, so that four names in five are found by theirs where there are 512.
-const HINTS: u32 = 1024;
+// A hint is the number of a name whose mark gives this slot's place. It is tried and never believed: where it is another name's, all slots are
+// looked at.
+const HINT_UNIT: u64 = 4294967296;
 
-// As many numbers as a reader of a text needs for slots and hints.
-pub const SLOT_PLACES: usize = 1536;
+// As many places for hints as slots.
+const HINTS: u32 = 512;
 
-fn slot_start(slot: u32) -> usize
-    ensures { λ r. ⌜ r ≡ slot / slotUnit ⌝ }
+fn slot_start(slot: u64) -> usize
+    ensures { λ r. ⌜ r ≡ slot % hintUnit / slotUnit ⌝ }
 {
-    (slot / SLOT_UNIT) as usize
+    (slot % HINT_UNIT / SLOT_UNIT) as usize
 }
 
-fn slot_len(slot: u32) -> usize
+fn slot_len(slot: u64) -> usize
     ensures { λ r. ⌜ r ≡ slot % slotUnit ⌝ }
 {
     (slot % SLOT_UNIT) as usize
 }
 
-// Where the hint of the name stands that is the text from `start` to `end`.
+// The number that a name's slot says below its hint.
+fn word_of(at: usize, len: usize) -> u64
+    requires { ⌜ at + len ≤ maxNameBytes ⌝ }
+    ensures { λ r. ⌜ (r ≡ at * slotUnit + len) × (r < hintUnit) ⌝ }
+{
+    (at as u64) * SLOT_UNIT + (len as u64)
+}
+
+// The place of the slot that holds the hint of a name, the text from `start` to `end`.
 fn hint_at(text: &[u8], start: usize, end: usize) -> usize
     requires { ⌜ (start ≤ end) × (end ≤ length (now text)) ⌝ }
-    ensures { λ r. ⌜ (r ≡ maxCategories + hintOf (drop start (take end (now (text .entry))))) × (r < slotPlaces) ⌝ }
+    ensures { λ r. ⌜ (r < maxCategories) × (r ≡ hintOf (drop start (take end (now (text .entry))))) ⌝ }
 {
-    MAX_CATEGORIES + (mark::mark_of(&text[start..end]) % HINTS) as usize
+    (mark::mark_of(&text[start..end]) % HINTS) as usize
 }
 
 // Name i is the text from `start` to `end`. Bytes first, of which the last decides most often: where all names have one length, its test
 // only costs.
-fn is_name(names: &[u8], slots: &[u32], i: usize, text: &[u8], start: usize, end: usize) -> bool
+fn is_name(names: &[u8], slots: &[u64], i: usize, text: &[u8], start: usize, end: usize) -> bool
     requires { ⌜ (i < length (now slots)) × ((start ≤ end) × (end ≤ length (now text))) ⌝ }
     ensures { λ r. ⌜ Tells (now (names .entry)) (now (slots .entry)) (drop start (take end (now (text .entry)))) i r ⌝ }
 {
@@ -57,7 +65,7 @@ fn is_name(names: &[u8], slots: &[u32], i: usize, text: &[u8], start: usize, end
 // The lowest number whose name is the text from `start` to `end`, one after another.
 fn try_all(
     names: &[u8],
-    slots: &[u32],
+    slots: &[u64],
     count: usize,
     text: &[u8],
     start: usize,
@@ -79,7 +87,7 @@ fn try_all(
 // The lowest number whose name is the text from `start` to `end`: the hint's where it is the name's, since no name is there twice.
 pub fn find_name(
     names: &[u8],
-    slots: &[u32],
+    slots: &[u64],
     count: usize,
     text: &[u8],
     start: usize,
@@ -88,7 +96,7 @@ pub fn find_name(
     requires { ⌜ (count ≤ maxCategories) × Sought (now slots) (now text) start end ⌝ }
     ensures { λ r. ⌜ FindsIn (now (names .entry)) (now (slots .entry)) count (drop start (take end (now (text .entry)))) r ⌝ }
 {
-    let hint = slots[hint_at(text, start, end)] as usize;
+    let hint = (slots[hint_at(text, start, end)] / HINT_UNIT) as usize;
     if hint < count {
         if is_name(names, slots, hint, text, start, end) {
             return Found::At(hint);
@@ -97,18 +105,34 @@ pub fn find_name(
     try_all(names, slots, count, text, start, end)
 }
 
-// The slot and the hint of a new name: the text from `start` to `end`, whose bytes stand at `at` of the store.
-pub fn add_slot(slots: &mut [u32], count: usize, at: usize, text: &[u8], start: usize, end: usize)
+// Slot i with another word below its hint.
+fn put_word(slots: &mut [u64], i: usize, word: u64)
+    requires { ⌜ (i < length (now slots)) × (word < hintUnit) ⌝ }
+    ensures { λ _. ⌜ now (slots .exit) ≡ set (now (slots .entry)) i (withWord word (getD (now (slots .entry)) i 0)) ⌝ }
+{
+    slots[i] = slots[i] / HINT_UNIT * HINT_UNIT + word;
+}
+
+// Slot i with another hint above its word.
+fn put_hint(slots: &mut [u64], i: usize, hint: usize)
+    requires { ⌜ (i < length (now slots)) × (hint < maxCategories) ⌝ }
+    ensures { λ _. ⌜ now (slots .exit) ≡ set (now (slots .entry)) i (withHint hint (getD (now (slots .entry)) i 0)) ⌝ }
+{
+    slots[i] = (hint as u64) * HINT_UNIT + slots[i] % HINT_UNIT;
+}
+
+// The word and the hint of a new name: the text from `start` to `end`, whose bytes stand at `at` of the store.
+pub fn add_slot(slots: &mut [u64], count: usize, at: usize, text: &[u8], start: usize, end: usize)
     requires { ⌜ (count < maxCategories) × (at + (end - start) ≤ maxNameBytes) ⌝ }
     requires { ⌜ Sought (now slots) (now text) start end ⌝ }
-    ensures { λ _. ⌜ now (slots .exit) ≡ set (set (now (slots .entry)) count (at * slotUnit + (end - start))) (maxCategories + hintOf (drop start (take end (now (text .entry))))) count ⌝ }
+    ensures { λ _. ⌜ Added (now (slots .entry)) count (at * slotUnit + (end - start)) (hintOf (drop start (take end (now (text .entry))))) (now (slots .exit)) ⌝ }
 {
-    slots[count] = (at * (SLOT_UNIT as usize) + (end - start)) as u32;
-    slots[hint_at(text, start, end)] = count as u32;
+    put_word(slots, count, word_of(at, end - start));
+    put_hint(slots, hint_at(text, start, end), count);
 }
 
 // Writes all slots out as the category table, unused ones as zero: where the reader accepts, its table is whole.
-pub fn write_slots(slots: &[u32], categories: &mut [u8])
+pub fn write_slots(slots: &[u64], categories: &mut [u8])
     ensures { λ _. ⌜ now (categories .exit) ≡ written (now (slots .entry)) (now (categories .entry)) ⌝ }
 {
     if slots.len() < MAX_CATEGORIES {

@@ -21,13 +21,10 @@ mark-of-requires c κs = search needs
 cast-result : tie.Need-cast-result
 cast-result c = search needs
 
-add-result : tie.Need-add-result
-add-result c = search needs
-
 returns : tie.Need-returns
 returns c =
     let a = (c .before .before .before .args) in
-    (hint-place (now (a .text)) (a .start) (a .end) _ (omega arith) ((c .mark-of .ensures)), omega arith)
+    (omega arith, hint-place (now (a .text)) (a .start) (a .end) _ (omega arith) ((c .mark-of .ensures)))
 
 pub hint-at-spec : {M : Type 1} → statement M
 hint-at-spec =
@@ -38,5 +35,4 @@ hint-at-spec =
     part-mark-of-end
     mark-of-requires
     cast-result
-    add-result
     returns)
