@@ -1,6 +1,6 @@
 // The rule on bounds, for packs and for tables that are handed in.
 ghost use Rattle.std.specs.Prelude.{◌≡◌};
-ghost use Rattle.paper.specs.Pack.Rules.{isBound};
+ghost use Rattle.paper.specs.Pack.Rules.{is_bound};
 
 const FIRST_SURROGATE: u16 = 0xD800;
 
@@ -12,7 +12,7 @@ const NOT_A_CHARACTER: u16 = 0xFFFE;
 
 // A bound is not D800 to DFFF, FEFF or FFFE.
 pub fn is_bound(x: u16) -> bool
-    ensures { result ≡ isBound x }
+    ensures { result ≡ is_bound x }
 {
     if x < FIRST_SURROGATE {
         return true;

@@ -10,32 +10,32 @@ use lib.ListN.{length, take, drop, length-take, length-drop}
 use lib.Seq.{take_all}
 use borrow.Author.Tests.{lt-ltb, le-ltb, ltb-false}
 use Rattle.paper.specs.Lists.{any, same}
-use Rattle.paper.specs.Tables.Layout.{nameSlotSize}
-use Rattle.paper.specs.Rows.Numbers.{nameSlotsOf, nameIn, pastStore}
-use Rattle.paper.specs.Tables.Layout.{NameSlot, nameSlotOf}
+use Rattle.paper.specs.Tables.Layout.{name_slot_size}
+use Rattle.paper.specs.Rows.Numbers.{name_slots_of, name_in, past_store}
+use Rattle.paper.specs.Tables.Layout.{NameSlot, name_slot_of}
 use Rattle.paper.specs.Tables.Lent.{got}
-use Rattle.paper.proofs.Tables.Laws.{left, left-all, left-none, left-more}
+use Rattle.paper.proofs.Tables.Laws.{left, left_all, left_none, left_more}
 use Rattle.table_rules.proofs.Turn.{entry}
-use Rattle.table_rules.proofs.Entries.{first-got, field-got, inside}
+use Rattle.table_rules.proofs.Entries.{first_got, field_got, inside}
 use Rattle.seek.specs.declared.Found.TheVariants.{At, Nothing}
 use Rattle.seek.specs.Finds.{Finds}
 use Rattle.seek.proofs.Compare.{differs}
-use Rattle.seek.proofs.Search.{Searching, search-start, search-hit, search-on, search-done}
+use Rattle.seek.proofs.Search.{Searching, search_start, search_hit, search_on, search_done}
 
 -- the slots that a loop has left
-abbrev pub slotsLeft : List ℕ → ℕ → ℕ → List NameSlot
-slotsLeft l n i = map nameSlotOf (left nameSlotSize n i l)
+abbrev pub slots_left : List ℕ → ℕ → ℕ → List NameSlot
+slots_left l n i = map name_slot_of (left name_slot_size n i l)
 
 abbrev slot_at : List ℕ → ℕ → NameSlot
-slot_at l i = nameSlotOf (entry nameSlotSize i l)
+slot_at l i = name_slot_of (entry name_slot_size i l)
 
-none_left : (l : List ℕ) (n i : ℕ) → n ≤ i → slotsLeft l n i ≡ []
-none_left l n i h = ap (map nameSlotOf) (left-none nameSlotSize n i l h)
+none_left : (l : List ℕ) (n i : ℕ) → n ≤ i → slots_left l n i ≡ []
+none_left l n i h = ap (map name_slot_of) (left_none name_slot_size n i l h)
 
 -- the name from its start to its end is the name
-whole-name : (store name : List ℕ) (start len : ℕ) → len ≡ length name
+whole_name : (store name : List ℕ) (start len : ℕ) → len ≡ length name
     → same (drop 0 (take len name)) (take (len - 0) (drop start store)) ≡ same name (take len (drop start store))
-whole-name store name start len e =
+whole_name store name start len e =
     let k : len - 0 ≡ len = omega arith in
     ap₂ (λ x m. same x (take m (drop start store))) (take_all len name (omega arith)) k
 
@@ -44,88 +44,88 @@ neither true b e = (e, absurd (let z : ◌≡◌ {A = ℕ} 0 1 = cc in omega ari
 neither false b e = (refl, e)
 
 module _ (l : List ℕ) (n i : ℕ) (lt : i < n) where
-  one_left : slotsLeft l n i ≡ slot_at l i ∷ slotsLeft l n (i + 1)
-  one_left = ap (map nameSlotOf) (left-more nameSlotSize n i l lt)
+  one_left : slots_left l n i ≡ slot_at l i ∷ slots_left l n (i + 1)
+  one_left = ap (map name_slot_of) (left_more name_slot_size n i l lt)
 
-  module _ (long : nameSlotSize * n ≤ length l) where
-    start_is : (start : ℕ) → start ≡ got 2 (nameSlotSize * i) l → start ≡ (slot_at l i).start
-    start_is start e = e ∙ first-got 2 nameSlotSize i l (omega arith) (inside nameSlotSize i n l lt long)
+  module _ (long : name_slot_size * n ≤ length l) where
+    start_is : (start : ℕ) → start ≡ got 2 (name_slot_size * i) l → start ≡ (slot_at l i).start
+    start_is start e = e ∙ first_got 2 name_slot_size i l (omega arith) (inside name_slot_size i n l lt long)
 
-    len_is : (len : ℕ) → len ≡ got 2 (nameSlotSize * i + 2) l → len ≡ (slot_at l i).len
-    len_is len e = e ∙ field-got 2 2 nameSlotSize i l (omega arith) (inside nameSlotSize i n l lt long)
+    len_is : (len : ℕ) → len ≡ got 2 (name_slot_size * i + 2) l → len ≡ (slot_at l i).len
+    len_is len e = e ∙ field_got 2 2 name_slot_size i l (omega arith) (inside name_slot_size i n l lt long)
 
 -- ---- does a name run past the store?
 
 module _ (store l : List ℕ) (n : ℕ) where
-  pub inside-begins : any (pastStore store) (slotsLeft l n 0) ≡ any (pastStore store) (nameSlotsOf l n)
-  inside-begins = ap (λ ps. any (pastStore store) (map nameSlotOf ps)) (left-all nameSlotSize n l)
+  pub inside_begins : any (past_store store) (slots_left l n 0) ≡ any (past_store store) (name_slots_of l n)
+  inside_begins = ap (λ ps. any (past_store store) (map name_slot_of ps)) (left_all name_slot_size n l)
 
-  module _ (i : ℕ) (v : Bool) (inv : any (pastStore store) (slotsLeft l n i) ≡ v) where
-    opened : i < n → (pastStore store (slot_at l i) || any (pastStore store) (slotsLeft l n (i + 1))) ≡ v
-    opened lt = sym (ap (any (pastStore store)) (one_left l n i lt)) ∙ inv
+  module _ (i : ℕ) (v : Bool) (inv : any (past_store store) (slots_left l n i) ≡ v) where
+    opened : i < n → (past_store store (slot_at l i) || any (past_store store) (slots_left l n (i + 1))) ≡ v
+    opened lt = sym (ap (any (past_store store)) (one_left l n i lt)) ∙ inv
 
-    pub inside-ends : n ≤ i → true ≡ not v
-    inside-ends h = ap not (sym (ap (any (pastStore store)) (none_left l n i h)) ∙ inv)
+    pub inside_ends : n ≤ i → true ≡ not v
+    inside_ends h = ap not (sym (ap (any (past_store store)) (none_left l n i h)) ∙ inv)
 
-    module _ (lt : i < n) (long : nameSlotSize * n ≤ length l) (start len : ℕ)
-        (es : start ≡ got 2 (nameSlotSize * i) l) (el : len ≡ got 2 (nameSlotSize * i + 2) l) where
+    module _ (lt : i < n) (long : name_slot_size * n ≤ length l) (start len : ℕ)
+        (es : start ≡ got 2 (name_slot_size * i) l) (el : len ≡ got 2 (name_slot_size * i + 2) l) where
       past_is : (slot_at l i).start + (slot_at l i).len ≡ start + len
       past_is = sym (ap₂ (λ a b. a + b) (start_is l n i lt long start es) (len_is l n i lt long len el))
 
-      pub inside-fails : length store < start + len → false ≡ not v
-      inside-fails h =
-          ap not (sym (ap (λ b. b || any (pastStore store) (slotsLeft l n (i + 1))) (lt-ltb (length store) ((slot_at l i).start + (slot_at l i).len) (omega (arith, past_is)))) ∙ opened lt)
+      pub inside_fails : length store < start + len → false ≡ not v
+      inside_fails h =
+          ap not (sym (ap (λ b. b || any (past_store store) (slots_left l n (i + 1))) (lt-ltb (length store) ((slot_at l i).start + (slot_at l i).len) (omega (arith, past_is)))) ∙ opened lt)
 
-      pub inside-goes : start + len ≤ length store → any (pastStore store) (slotsLeft l n (i + 1)) ≡ v
-      inside-goes h =
-          sym (ap (λ b. b || any (pastStore store) (slotsLeft l n (i + 1))) (le-ltb (length store) ((slot_at l i).start + (slot_at l i).len) (omega (arith, past_is)))) ∙ opened lt
+      pub inside_goes : start + len ≤ length store → any (past_store store) (slots_left l n (i + 1)) ≡ v
+      inside_goes h =
+          sym (ap (λ b. b || any (past_store store) (slots_left l n (i + 1))) (le-ltb (length store) ((slot_at l i).start + (slot_at l i).len) (omega (arith, past_is)))) ∙ opened lt
 
 -- ---- the search
 
 pub record Placing (store l : List ℕ) (n : ℕ) (name : List ℕ) (i : ℕ) : Type 0 where
-  pub long : nameSlotSize * n ≤ length l
-  pub none-past : any (pastStore store) (slotsLeft l n i) ≡ false
-  pub seen : Searching (map (nameIn store) (nameSlotsOf l n)) name i (map (nameIn store) (slotsLeft l n i))
+  pub long : name_slot_size * n ≤ length l
+  pub none_past : any (past_store store) (slots_left l n i) ≡ false
+  pub seen : Searching (map (name_in store) (name_slots_of l n)) name i (map (name_in store) (slots_left l n i))
 
-pub place-start : (store l : List ℕ) (n : ℕ) (name : List ℕ) → nameSlotSize * n ≤ length l → any (pastStore store) (nameSlotsOf l n) ≡ false → Placing store l n name 0
-place-start store l n name h e =
+pub place_start : (store l : List ℕ) (n : ℕ) (name : List ℕ) → name_slot_size * n ≤ length l → any (past_store store) (name_slots_of l n) ≡ false → Placing store l n name 0
+place_start store l n name h e =
     record {
       long = h;
-      none-past = inside-begins store l n ∙ e;
-      seen = rw (left-all nameSlotSize n l) (search-start (map (nameIn store) (nameSlotsOf l n)) name);
+      none_past = inside_begins store l n ∙ e;
+      seen = rw (left_all name_slot_size n l) (search_start (map (name_in store) (name_slots_of l n)) name);
     }
 
 module _ {store l : List ℕ} {n : ℕ} {name : List ℕ} {i : ℕ} (z : Placing store l n name i) where
-  pub place-done : n ≤ i → Finds (map (nameIn store) (nameSlotsOf l n)) name Nothing
-  place-done h = search-done z.seen (ap (map (nameIn store)) (none_left l n i h))
+  pub place_done : n ≤ i → Finds (map (name_in store) (name_slots_of l n)) name Nothing
+  place_done h = search_done z.seen (ap (map (name_in store)) (none_left l n i h))
 
   module _ (lt : i < n) where
-    first : (pastStore store (slot_at l i) ≡ false) × (any (pastStore store) (slotsLeft l n (i + 1)) ≡ false)
-    first = neither (pastStore store (slot_at l i)) _ (opened store l n i false z.none-past lt)
+    first : (past_store store (slot_at l i) ≡ false) × (any (past_store store) (slots_left l n (i + 1)) ≡ false)
+    first = neither (past_store store (slot_at l i)) _ (opened store l n i false z.none_past lt)
 
-    next : map (nameIn store) (slotsLeft l n i) ≡ nameIn store (slot_at l i) ∷ map (nameIn store) (slotsLeft l n (i + 1))
-    next = ap (map (nameIn store)) (one_left l n i lt)
+    next : map (name_in store) (slots_left l n i) ≡ name_in store (slot_at l i) ∷ map (name_in store) (slots_left l n (i + 1))
+    next = ap (map (name_in store)) (one_left l n i lt)
 
-    passed : false ≡ same name (nameIn store (slot_at l i)) → Placing store l n name (i + 1)
-    passed h = record { long = z.long; none-past = first.1; seen = search-on z.seen _ _ next h }
+    passed : false ≡ same name (name_in store (slot_at l i)) → Placing store l n name (i + 1)
+    passed h = record { long = z.long; none_past = first.1; seen = search_on z.seen _ _ next h }
 
     -- a name of another length: its slot has the length of the name, since that does not run past the store
-    pub place_other : (len : ℕ) → len ≡ got 2 (nameSlotSize * i + 2) l → (len ≡ length name → ⊥) → Placing store l n name (i + 1)
+    pub place_other : (len : ℕ) → len ≡ got 2 (name_slot_size * i + 2) l → (len ≡ length name → ⊥) → Placing store l n name (i + 1)
     place_other len el h =
         let p : (slot_at l i).start + (slot_at l i).len ≤ length store = ltb-false (length store) ((slot_at l i).start + (slot_at l i).len) first.0 in
-        let k : length (nameIn store (slot_at l i)) ≡ (slot_at l i).len = simp (length-take, length-drop) (omega arith) in
-        passed (differs name (nameIn store (slot_at l i)) (λ d. h (len_is l n i lt z.long len el ∙ sym k ∙ sym d)))
+        let k : length (name_in store (slot_at l i)) ≡ (slot_at l i).len = simp (length-take, length-drop) (omega arith) in
+        passed (differs name (name_in store (slot_at l i)) (λ d. h (len_is l n i lt z.long len el ∙ sym k ∙ sym d)))
 
     -- a name of the same length k: its bytes decide
-    module _ (start len k : ℕ) (es : start ≡ got 2 (nameSlotSize * i) l) (el : len ≡ got 2 (nameSlotSize * i + 2) l) (whole : k ≡ length name)
+    module _ (start len k : ℕ) (es : start ≡ got 2 (name_slot_size * i) l) (el : len ≡ got 2 (name_slot_size * i + 2) l) (whole : k ≡ length name)
         (r : Bool) (er : r ≡ same (drop 0 (take k name)) (take (k - 0) (drop start store))) (e : len ≡ k) where
-      is_name : r ≡ same name (nameIn store (slot_at l i))
+      is_name : r ≡ same name (name_in store (slot_at l i))
       is_name =
-          er ∙ whole-name store name start k whole
+          er ∙ whole_name store name start k whole
           ∙ ap₂ (λ m j. same name (take m (drop j store))) (sym e ∙ len_is l n i lt z.long len el) (start_is l n i lt z.long start es)
 
-      pub place-hit : r ≡ true → Finds (map (nameIn store) (nameSlotsOf l n)) name (At i)
-      place-hit h = search-hit z.seen _ _ next (sym h ∙ is_name)
+      pub place_hit : r ≡ true → Finds (map (name_in store) (name_slots_of l n)) name (At i)
+      place_hit h = search_hit z.seen _ _ next (sym h ∙ is_name)
 
-      pub place-on : r ≡ false → Placing store l n name (i + 1)
-      place-on h = passed (sym h ∙ is_name)
+      pub place_on : r ≡ false → Placing store l n name (i + 1)
+      place_on h = passed (sym h ∙ is_name)

@@ -3,7 +3,7 @@
 use Rattle.std.specs.Prelude.{ℕ, ◌≡◌, List}
 use Rattle.std.proofs.Math.Option.{Option, none, some}
 use Rattle.paper.specs.Rows.Lookup.{Looked, gives, refuses}
-use Rattle.paper.specs.Rows.Numbers.{findName}
+use Rattle.paper.specs.Rows.Numbers.{find_name}
 use Rattle.by_name.specs.declared.CategoryFound.{CategoryFound}
 use Rattle.by_name.specs.declared.CategoryFound.TheVariants.{Category, Absent, Refused}
 
@@ -19,5 +19,5 @@ place_of Absent = 0
 place_of (Refused r) = r.place
 
 pub record FindsCategory (store table : List ℕ) (count : ℕ) (name : List ℕ) (r : CategoryFound) : Type 0 where
-  pub answer : said r ≡ findName store table count name
+  pub answer : said r ≡ find_name store table count name
   pub place : place_of r ≡ 0

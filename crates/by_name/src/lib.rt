@@ -1,8 +1,8 @@
 // Finding a category by its name over any tables: nothing is believed of them, so 26 comes first.
 ghost use Rattle.std.specs.Prelude.{◌≡◌, false, not, map, ◌*◌, ◌≤◌, length};
 ghost use Rattle.paper.specs.Lists.{any};
-ghost use Rattle.paper.specs.Tables.Layout.{nameSlotSize};
-ghost use Rattle.paper.specs.Rows.Numbers.{nameSlotsOf, nameIn, pastStore};
+ghost use Rattle.paper.specs.Tables.Layout.{name_slot_size};
+ghost use Rattle.paper.specs.Rows.Numbers.{name_slots_of, name_in, past_store};
 ghost use Rattle.seek.specs.Finds.{Finds};
 ghost use Rattle.by_name.specs.Lookup.{FindsCategory};
 
@@ -19,8 +19,8 @@ pub enum CategoryFound {
 
 // No category's name runs past the store.
 fn names_inside(names: &[u8], categories: &[u8], count: usize) -> bool
-    requires { nameSlotSize * count ≤ length categories.now }
-    ensures { result ≡ not (any (pastStore names.now) (nameSlotsOf categories.now count)) }
+    requires { name_slot_size * count ≤ length categories.now }
+    ensures { result ≡ not (any (past_store names.now) (name_slots_of categories.now count)) }
 {
     let mut i = 0;
     while i < count {
@@ -38,9 +38,9 @@ fn names_inside(names: &[u8], categories: &[u8], count: usize) -> bool
 
 // The lowest number with that name, where no category's name runs past the store.
 fn find_placed(names: &[u8], categories: &[u8], count: usize, name: &[u8]) -> Found
-    requires count_in_bounds { nameSlotSize * count ≤ length categories.now }
-    requires count_value { any (pastStore names.now) (nameSlotsOf categories.now count) ≡ false }
-    ensures { Finds (map (nameIn names.now) (nameSlotsOf categories.now count)) name.now result }
+    requires count_in_bounds { name_slot_size * count ≤ length categories.now }
+    requires count_value { any (past_store names.now) (name_slots_of categories.now count) ≡ false }
+    ensures { Finds (map (name_in names.now) (name_slots_of categories.now count)) name.now result }
 {
     let len = name.len();
     let mut i = 0;

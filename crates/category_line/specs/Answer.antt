@@ -5,8 +5,8 @@ use Rattle.std.specs.Prelude.{ℕ, ◌≡◌, true, false, List}
 use Rattle.paper.specs.CharDef.Line.{blank, category, range}
 use Rattle.paper.specs.Computed.ReadText.{Found, found, wrong}
 use Rattle.scan.specs.declared.Part.{Part}
-use Rattle.scan.specs.Marks.{gapWidth, wordsBytes}
-use Rattle.scan.specs.Answer.{part, bytes_of, wordPart}
+use Rattle.scan.specs.Marks.{gap_width, words_bytes}
+use Rattle.scan.specs.Answer.{part, bytes_of, word_part}
 use Rattle.category_line.specs.declared.Line.TheVariants.{Blank, Category, Range}
 use Rattle.category_line.specs.declared.LineAnswer.{LineAnswer}
 use Rattle.category_line.specs.declared.LineAnswer.TheVariants.{Read, Refused}
@@ -16,14 +16,14 @@ abbrev pub said : List ℕ → LineAnswer → Found
 said text (Refused n) = wrong n
 said text (Read Blank) = found blank
 said text (Read (Category l)) = found (category (bytes_of text l.name) l.invoke l.group l.length)
-said text (Read (Range l)) = found (range l.lower l.upper (wordsBytes (gapWidth true) (bytes_of text l.names)))
+said text (Read (Range l)) = found (range l.lower l.upper (words_bytes (gap_width true) (bytes_of text l.names)))
 
 -- the places of an answer to a body: a name is its first word, the names of a range stand behind it
 abbrev pub Placed : List ℕ → Part → LineAnswer → Type 0
 Placed text b (Refused n) = Unit {0}
 Placed text b (Read Blank) = Unit {0}
-Placed text b (Read (Category l)) = l.name ≡ wordPart false text b.start b.end
-Placed text b (Read (Range l)) = l.names ≡ part (wordPart true text b.start b.end).end b.end
+Placed text b (Read (Category l)) = l.name ≡ word_part false text b.start b.end
+Placed text b (Read (Range l)) = l.names ≡ part (word_part true text b.start b.end).end b.end
 
 -- an answer says this, of a body that stands there
 pub record Says (text : List ℕ) (b : Part) (f : Found) (r : LineAnswer) : Type 0 where

@@ -1,11 +1,11 @@
 // A category line of char.def, item 4 of the paper, from the bytes of its body: a name and three numbers, or the number of its refusal. The type of a
 // line's answer stands here too, beneath both of those who give it: range lines are read in `line`, which also tells which kind a line is.
 ghost use Rattle.std.specs.Prelude.{◌≡◌, false, take, drop};
-ghost use Rattle.paper.specs.Computed.ReadText.{categoryOf};
-ghost use Rattle.scan.specs.Marks.{gapWidth, wordsBytes};
+ghost use Rattle.paper.specs.Computed.ReadText.{category_of};
+ghost use Rattle.scan.specs.Marks.{gap_width, words_bytes};
 ghost use Rattle.scan.specs.Answer.{part};
 ghost use Rattle.category_line.specs.Answer.{Says};
-ghost use Rattle.category_line.specs.Asked.{FieldsAre, categoryAnswer};
+ghost use Rattle.category_line.specs.Asked.{FieldsAre, category_answer};
 
 use numeral::Number;
 use paper::{CATEGORY_FIELDS, CATEGORY_NUMBER};
@@ -98,7 +98,7 @@ fn fields_of(text: &[u8], start: usize, end: usize) -> Fields
 
 // A category line of a name's place and three numbers.
 fn category_of(name: Part, invoke: Number, group: Number, length: Number) -> LineAnswer
-    ensures { result ≡ categoryAnswer name invoke group length }
+    ensures { result ≡ category_answer name invoke group length }
 {
     match invoke {
         Number::Bad => LineAnswer::Refused(CATEGORY_NUMBER),
@@ -119,7 +119,7 @@ fn category_of(name: Part, invoke: Number, group: Number, length: Number) -> Lin
 
 // The body of a category line: a name and three numbers.
 pub fn parse_category(text: &[u8], start: usize, end: usize) -> LineAnswer
-    ensures { Says text.now (part start end) (categoryOf (wordsBytes (gapWidth false) (drop start (take end text.now)))) result }
+    ensures { Says text.now (part start end) (category_of (words_bytes (gap_width false) (drop start (take end text.now)))) result }
 {
     match fields_of(text, start, end) {
         Fields::NotFour => LineAnswer::Refused(CATEGORY_FIELDS),

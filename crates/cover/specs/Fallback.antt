@@ -4,6 +4,6 @@ use Rattle.std.specs.Prelude.{ℕ, List, [], ◌∷◌}
 use Rattle.cover.specs.declared.Fallback.{Fallback}
 use Rattle.cover.specs.declared.Fallback.TheVariants.{Category, Nothing}
 
-abbrev pub fallbackRow : Fallback → List ℕ
-fallbackRow (Category number) = number ∷ []
-fallbackRow Nothing = []
+abbrev pub fallback_row : Fallback → List ℕ
+fallback_row (Category number) = number ∷ []
+fallback_row Nothing = []

@@ -2,37 +2,37 @@
 -- point. Over tables that hold together these are the reading's, as `Meets` of crate `row` shows.
 -- Assumes nothing.
 use Rattle.std.specs.Prelude.{ℕ, zero, suc, ◌+◌, ◌*◌, Bool, cond, ◌&&◌, List, [], ◌∷◌, ◌++◌, leb}
-use Rattle.paper.specs.Numbers.Bytes.{u16Size}
-use Rattle.paper.specs.Tables.Layout.{RangeSlot, rangeSlotSize, referenceSize, upperAt, first_at, countAt}
+use Rattle.paper.specs.Numbers.Bytes.{u16_size}
+use Rattle.paper.specs.Tables.Layout.{RangeSlot, range_slot_size, reference_size, upper_at, first_at, count_at}
 use Rattle.paper.specs.Tables.Lent.{got}
 
-unfoldable pub slotGot : ℕ → List ℕ → RangeSlot
+unfoldable pub slot_got : ℕ → List ℕ → RangeSlot
 unfolding got
-slotGot i l =
+slot_got i l =
     record {
-      lower = got u16Size (rangeSlotSize * i) l;
-      upper = got u16Size (rangeSlotSize * i + upperAt) l;
-      first = got u16Size (rangeSlotSize * i + first_at) l;
-      count = got u16Size (rangeSlotSize * i + countAt) l;
+      lower = got u16_size (range_slot_size * i) l;
+      upper = got u16_size (range_slot_size * i + upper_at) l;
+      first = got u16_size (range_slot_size * i + first_at) l;
+      count = got u16_size (range_slot_size * i + count_at) l;
     }
 
 -- n slots from i on
-unfoldable pub slotsGot : ℕ → ℕ → List ℕ → List RangeSlot
-unfolding slotGot
-slotsGot i zero l = []
-slotsGot i (suc n) l = slotGot i l ∷ slotsGot (i + 1) n l
+unfoldable pub slots_got : ℕ → ℕ → List ℕ → List RangeSlot
+unfolding slot_got
+slots_got i zero l = []
+slots_got i (suc n) l = slot_got i l ∷ slots_got (i + 1) n l
 
 -- n category numbers from i on
-unfoldable pub numbersGot : ℕ → ℕ → List ℕ → List ℕ
+unfoldable pub numbers_got : ℕ → ℕ → List ℕ → List ℕ
 unfolding got
-numbersGot i zero l = []
-numbersGot i (suc n) l = got referenceSize (referenceSize * i) l ∷ numbersGot (i + 1) n l
+numbers_got i zero l = []
+numbers_got i (suc n) l = got reference_size (reference_size * i) l ∷ numbers_got (i + 1) n l
 
-abbrev pub slotHolds : ℕ → RangeSlot → Bool
-slotHolds c r = leb r.lower c && leb c r.upper
+abbrev pub slot_holds : ℕ → RangeSlot → Bool
+slot_holds c r = leb r.lower c && leb c r.upper
 
 -- the numbers of the slots that hold c, one after another
-unfoldable pub coversGot : ℕ → List RangeSlot → List ℕ → List ℕ
-unfolding numbersGot
-coversGot c [] l = []
-coversGot c (r ∷ rs) l = cond (slotHolds c r) (numbersGot r.first r.count l) [] ++ coversGot c rs l
+unfoldable pub covers_got : ℕ → List RangeSlot → List ℕ → List ℕ
+unfolding numbers_got
+covers_got c [] l = []
+covers_got c (r ∷ rs) l = cond (slot_holds c r) (numbers_got r.first r.count l) [] ++ covers_got c rs l

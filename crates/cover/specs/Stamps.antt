@@ -4,8 +4,8 @@ use Rattle.std.specs.Prelude.{ℕ, ◌+◌, ◌≡◌, Bool, true, cond, List, [
 use Rattle.std.proofs.lemmas.List.Edits.{sets}
 use Rattle.paper.specs.Rows.Covering.{or_else}
 
-abbrev pub isSeen : ℕ → List ℕ → ℕ → Bool
-isSeen s seen x = cond (ltb x (length seen)) (eqb (get_or seen x 0) s) true
+abbrev pub is_seen : ℕ → List ℕ → ℕ → Bool
+is_seen s seen x = cond (ltb x (length seen)) (eqb (get_or seen x 0) s) true
 
 -- the numbers at first sight
 unfoldable pub stamped : ℕ → List ℕ → List ℕ → List ℕ
@@ -13,12 +13,12 @@ stamped s seen [] = []
 stamped s seen (x ∷ xs) =
     let a = stamped s seen xs in
     let b = x ∷ stamped s (set seen x s) xs in
-    cond (isSeen s seen x) a b
+    cond (is_seen s seen x) a b
 
 -- the stamps afterwards
 unfoldable pub stamps : ℕ → List ℕ → List ℕ → List ℕ
 stamps s seen [] = seen
-stamps s seen (x ∷ xs) = stamps s (cond (isSeen s seen x) seen (set seen x s)) xs
+stamps s seen (x ∷ xs) = stamps s (cond (is_seen s seen x) seen (set seen x s)) xs
 
 -- the numbers l noted behind `at`: those at first sight are written, and counted where there is no place
 pub record Noted (s : ℕ) (l seen₀ seen₁ out₀ out₁ : List ℕ) (at end : ℕ) : Type 0 where

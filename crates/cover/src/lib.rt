@@ -1,10 +1,10 @@
 // The distinct categories that the covering ranges name at a code point, in first-seen order, behind a place of a lent slice; where they name none, a
 // fallback. A category was seen where its stamp is the row's.
 ghost use Rattle.std.specs.Prelude.{◌≡◌, ◌*◌, ◌≤◌, ◌<◌, length};
-ghost use Rattle.paper.specs.Sizes.{maxCategories, maxRanges, maxU32};
-ghost use Rattle.cover.specs.Slots.{slotGot, slotsGot, numbersGot, slotHolds, coversGot};
-ghost use Rattle.cover.specs.Stamps.{isSeen, Noted, Rowed};
-ghost use Rattle.cover.specs.Fallback.{fallbackRow};
+ghost use Rattle.paper.specs.Sizes.{max_categories, max_ranges, max_u32};
+ghost use Rattle.cover.specs.Slots.{slot_got, slots_got, numbers_got, slot_holds, covers_got};
+ghost use Rattle.cover.specs.Stamps.{is_seen, Noted, Rowed};
+ghost use Rattle.cover.specs.Fallback.{fallback_row};
 
 use table::{COUNT_AT, FIRST_AT, RANGE_BYTES, REFERENCE_BYTES, UPPER_AT};
 
@@ -24,8 +24,8 @@ fn wide(x: u16) -> u32
 
 // Range i holds c, "its bounds and what is between them".
 fn holds(ranges: &[u8], i: usize, c: u32) -> bool
-    requires { i ≤ maxRanges }
-    ensures { result ≡ slotHolds c (slotGot i ranges.now) }
+    requires { i ≤ max_ranges }
+    ensures { result ≡ slot_holds c (slot_got i ranges.now) }
 {
     if c < wide(table::get_u16(ranges, RANGE_BYTES * i)) {
         return false;
@@ -38,7 +38,7 @@ fn holds(ranges: &[u8], i: usize, c: u32) -> bool
 
 // The category was seen in this row; one that has no place counts as seen.
 fn is_seen(seen: &[u32], x: usize, stamp: u32) -> bool
-    ensures { result ≡ isSeen stamp seen.now x }
+    ensures { result ≡ is_seen stamp seen.now x }
 {
     if seen.len() <= x {
         return true;
@@ -59,8 +59,8 @@ fn note(
     out: &mut [u16],
     at: usize,
 ) -> usize
-    requires { (at ≤ 2 * maxU32) × (length seen.old ≤ maxCategories) }
-    ensures { Noted stamp (numbersGot first count references.now) seen.old seen.new out.old out.new at result }
+    requires { (at ≤ 2 * max_u32) × (length seen.old ≤ max_categories) }
+    ensures { Noted stamp (numbers_got first count references.now) seen.old seen.new out.old out.new at result }
 {
     let mut i = first as usize;
     let end = i + count as usize;
@@ -90,8 +90,8 @@ fn named(
     out: &mut [u16],
     at: usize,
 ) -> usize
-    requires { (count ≤ maxRanges) × ((at ≤ maxU32) × (length seen.old ≤ maxCategories)) }
-    ensures { Noted stamp (coversGot c (slotsGot 0 count ranges.now) references.now) seen.old seen.new out.old out.new at result }
+    requires { (count ≤ max_ranges) × ((at ≤ max_u32) × (length seen.old ≤ max_categories)) }
+    ensures { Noted stamp (covers_got c (slots_got 0 count ranges.now) references.now) seen.old seen.new out.old out.new at result }
 {
     let mut i = 0;
     let mut to = at;
@@ -120,8 +120,8 @@ pub fn covering(
     out: &mut [u16],
     at: usize,
 ) -> usize
-    requires { (count ≤ maxRanges) × ((at ≤ maxU32) × (length seen.old ≤ maxCategories)) }
-    ensures { Rowed stamp (coversGot c (slotsGot 0 count ranges.now) references.now) (fallbackRow fallback) seen.old seen.new out.old out.new at result }
+    requires { (count ≤ max_ranges) × ((at ≤ max_u32) × (length seen.old ≤ max_categories)) }
+    ensures { Rowed stamp (covers_got c (slots_got 0 count ranges.now) references.now) (fallback_row fallback) seen.old seen.new out.old out.new at result }
 {
     let to = named(ranges, references, count, c, seen, stamp, out, at);
     if at < to {

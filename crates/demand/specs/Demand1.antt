@@ -5,11 +5,11 @@
 use Rattle.std.specs.Prelude.{◌≡◌, true, false, cond, List, [], ◌∷◌, ℕ, eqb}
 use Rattle.std.proofs.Math.Option.{none, some}
 use Rattle.paper.specs.Lists.{any}
-use Rattle.paper.specs.Refusals.{roomShort, flatRowLong, tableRoomShort, packRoomShort, tablesApart}
+use Rattle.paper.specs.Refusals.{room_short, flat_row_long, table_room_short, pack_room_short, tables_apart}
 use Rattle.paper.specs.CharDef.Reading.{Reading, Answer}
-use Rattle.paper.specs.Computed.HandedIn.{handedIn}
+use Rattle.paper.specs.Computed.HandedIn.{handed_in}
 use Rattle.paper.specs.Tables.Layout.{Tables}
-use Rattle.paper.specs.Tables.Reader.{hasRoom, clears, past, cleared, Reads}
+use Rattle.paper.specs.Tables.Reader.{has_room, clears, past, cleared, Reads}
 use Rattle.paper.specs.declared.Counts.{Counts}
 use Rattle.paper.specs.declared.Refusal.{Refusal}
 use Rattle.paper.specs.declared.Outcome.{Outcome}
@@ -17,46 +17,46 @@ use Rattle.paper.specs.declared.Outcome.TheVariants.{Refused}
 use Rattle.unk.specs.Layout.{UnkTables}
 use Rattle.unk.specs.Parse as unk
 use Rattle.unk.specs.declared.UnkOutcome.{UnkOutcome}
-use Rattle.unk.specs.declared.UnkOutcome.TheVariants as unk-outcome
+use Rattle.unk.specs.declared.UnkOutcome.TheVariants as unk_outcome
 
 -- ---- the readers of char.def and of packs
 
 -- a reader of the five tables, to whose bytes the paper's answer is a: it was lent tables, left them so, and answered r
 pub record Finished (a : Answer) (lent left : Tables) (r : Outcome) : Type 0 where
   -- 1, exactly where a lent room is below its size; nothing is changed
-  pub short-room : hasRoom lent ≡ false → (r ≡ Refused (record { number = roomShort; place = 0 })) × (left ≡ lent)
+  pub short_room : has_room lent ≡ false → (r ≡ Refused (record { number = room_short; place = 0 })) × (left ≡ lent)
   -- a later refusal leaves zero up to the sizes where the paper says so of its number, and memory as it was otherwise
-  pub after-refusal : hasRoom lent ≡ true → (x : Refusal) → r ≡ Refused x → left ≡ cond (clears x.number) (cleared lent) lent
+  pub after_refusal : has_room lent ≡ true → (x : Refusal) → r ≡ Refused x → left ≡ cond (clears x.number) (cleared lent) lent
   -- "memory past the sizes is untouched", whatever the answer
-  pub past-kept : past left ≡ past lent
+  pub past_kept : past left ≡ past lent
   -- nothing is left open: another outcome and another memory that the promise allows are these
-  pub nothing-open : (other : Tables) (s : Outcome) → Reads a lent other s → (s ≡ r) × (other ≡ left)
+  pub nothing_open : (other : Tables) (s : Outcome) → Reads a lent other s → (s ≡ r) × (other ≡ left)
 
 -- ---- the reader of unk.def, over a reading's tables
 
 pub record UnkFinished (t : Tables) (n : Counts) (text : List ℕ) (lent left : UnkTables) (r : UnkOutcome) : Type 0 where
   -- 1, exactly where a lent room is below its size; then 26, where no reading stands in the tables; nothing is changed
-  pub short-room : unk.hasRoom lent ≡ false → (r ≡ unk-outcome.Refused (record { number = roomShort; place = 0 })) × (left ≡ lent)
-  pub apart : unk.hasRoom lent ≡ true → handedIn t n ≡ none → (r ≡ unk-outcome.Refused (record { number = tablesApart; place = 0 })) × (left ≡ lent)
+  pub short_room : unk.has_room lent ≡ false → (r ≡ unk_outcome.Refused (record { number = room_short; place = 0 })) × (left ≡ lent)
+  pub apart : unk.has_room lent ≡ true → handed_in t n ≡ none → (r ≡ unk_outcome.Refused (record { number = tables_apart; place = 0 })) × (left ≡ lent)
   -- the rest as above
-  pub after-refusal : unk.hasRoom lent ≡ true → (q : Reading) → handedIn t n ≡ some q
-      → (x : Refusal) → r ≡ unk-outcome.Refused x → left ≡ cond (clears x.number) (unk.cleared lent) lent
-  pub past-kept : unk.past left ≡ unk.past lent
-  pub nothing-open : (other : UnkTables) (s : UnkOutcome) → unk.ParsesUnk t n text lent other s → (s ≡ r) × (other ≡ left)
+  pub after_refusal : unk.has_room lent ≡ true → (q : Reading) → handed_in t n ≡ some q
+      → (x : Refusal) → r ≡ unk_outcome.Refused x → left ≡ cond (clears x.number) (unk.cleared lent) lent
+  pub past_kept : unk.past left ≡ unk.past lent
+  pub nothing_open : (other : UnkTables) (s : UnkOutcome) → unk.ParsesUnk t n text lent other s → (s ≡ r) × (other ≡ left)
 
 -- ---- builders and the pack writer: "26, 16, 17 or 22"
 
-abbrev pub rowNumbers : List ℕ
-rowNumbers = tablesApart ∷ tableRoomShort ∷ []
+abbrev pub row_numbers : List ℕ
+row_numbers = tables_apart ∷ table_room_short ∷ []
 
-abbrev pub flatNumbers : List ℕ
-flatNumbers = tablesApart ∷ flatRowLong ∷ tableRoomShort ∷ []
+abbrev pub flat_numbers : List ℕ
+flat_numbers = tables_apart ∷ flat_row_long ∷ table_room_short ∷ []
 
-abbrev pub writerNumbers : List ℕ
-writerNumbers = tablesApart ∷ packRoomShort ∷ []
+abbrev pub writer_numbers : List ℕ
+writer_numbers = tables_apart ∷ pack_room_short ∷ []
 
 -- one that may refuse by these numbers, and promises `Allows` of what it leaves and answers: it was lent room, left it so, and answered r
 pub record Built {Room Outcome : Type 0} (numbers : List ℕ) (refused : Refusal → Outcome) (Allows : Room → Outcome → Type 0) (lent left : Room) (r : Outcome) : Type 0 where
   -- a refusal has one of the numbers, the place 0, and leaves all as it was
-  pub after-refusal : (x : Refusal) → r ≡ refused x → (any (eqb x.number) numbers ≡ true) × (x.place ≡ 0) × (left ≡ lent)
-  pub nothing-open : (other : Room) (s : Outcome) → Allows other s → (s ≡ r) × (other ≡ left)
+  pub after_refusal : (x : Refusal) → r ≡ refused x → (any (eqb x.number) numbers ≡ true) × (x.place ≡ 0) × (left ≡ lent)
+  pub nothing_open : (other : Room) (s : Outcome) → Allows other s → (s ≡ r) × (other ≡ left)

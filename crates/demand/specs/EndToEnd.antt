@@ -5,12 +5,12 @@ use Rattle.std.specs.Prelude.{ℕ, ◌≡◌, List, T}
 use Rattle.paper.specs.Lists.{all}
 use Rattle.paper.specs.Numbers.Bytes.{is_byte}
 use Rattle.paper.specs.CharDef.Reading.{Reading, Fits}
-use Rattle.paper.specs.Pack.Fields.{packBytes}
+use Rattle.paper.specs.Pack.Fields.{pack_bytes}
 use Rattle.paper.specs.Pack.Rules.{PackRules}
 use Rattle.paper.specs.Tables.Layout.{Tables}
 use Rattle.paper.specs.declared.Counts.{Counts}
 use Rattle.paper.specs.declared.Outcome.TheVariants.{Accepted}
-use Rattle.demand.specs.Demand2.{BuiltOver, lookupTables, LooksUp, FindsByNumber}
+use Rattle.demand.specs.Demand2.{BuiltOver, lookup_tables, LooksUp, FindsByNumber}
 use Rattle.demand.specs.Demand3.{Run}
 use Rattle.demand.specs.Packs.{Unpacked}
 
@@ -19,7 +19,7 @@ pub record OneReading (Meant : Reading → Type 0) (t : Tables) (n : Counts) (b 
   pub reading : Reading
   pub meant : Meant reading
   pub no_other : (q : Reading) → Meant q → q ≡ reading
-  pub lookups : LooksUp reading (lookupTables b)
+  pub lookups : LooksUp reading (lookup_tables b)
   pub by_number : FindsByNumber reading t n
 
 abbrev pub FromText : List ℕ → Type 0
@@ -27,7 +27,7 @@ FromText text = (run : Run text) (n : Counts) → run.outcome ≡ Accepted n →
 
 -- the reading that has this pack
 abbrev pub PackOf : List ℕ → Reading → Type 0
-PackOf pack q = PackRules q × (packBytes q ≡ pack)
+PackOf pack q = PackRules q × (pack_bytes q ≡ pack)
 
 abbrev pub FromPack : List ℕ → Type 0
 FromPack pack =

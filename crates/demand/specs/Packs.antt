@@ -3,15 +3,15 @@
 -- Assumes nothing.
 use Rattle.std.specs.Prelude.{ℕ, ◌≤◌, ◌≡◌, ◌↔◌, true, List, take}
 use Rattle.std.proofs.Math.Option.{some}
-use Rattle.paper.specs.Sizes.{maxPackBytes}
+use Rattle.paper.specs.Sizes.{max_pack_bytes}
 use Rattle.paper.specs.CharDef.Reading.{Reading}
-use Rattle.paper.specs.Pack.Fields.{packBytes}
+use Rattle.paper.specs.Pack.Fields.{pack_bytes}
 use Rattle.paper.specs.Pack.Rules.{PackRules}
 use Rattle.paper.specs.Pack.Broken.{Broken}
-use Rattle.paper.specs.Tables.Layout.{Tables, countsOf, used}
-use Rattle.paper.specs.Tables.Reader.{hasRoom, Reads}
-use Rattle.paper.specs.Computed.HandedIn.{handedIn}
-use Rattle.paper.specs.Computed.ReadPack.{readPack}
+use Rattle.paper.specs.Tables.Layout.{Tables, counts_of, used}
+use Rattle.paper.specs.Tables.Reader.{has_room, Reads}
+use Rattle.paper.specs.Computed.HandedIn.{handed_in}
+use Rattle.paper.specs.Computed.ReadPack.{read_pack}
 use Rattle.paper.specs.declared.Counts.{Counts}
 use Rattle.paper.specs.declared.Refusal.{Refusal}
 use Rattle.paper.specs.declared.Outcome.{Outcome}
@@ -22,10 +22,10 @@ use Rattle.packer.specs.declared.Written.TheVariants.{Length}
 -- `read_pack` ran on these bytes over room of the sizes
 pub record Unpacked (pack : List ℕ) : Type 0 where
   pub lent : Tables
-  pub room : hasRoom lent ≡ true
+  pub room : has_room lent ≡ true
   pub left : Tables
   pub outcome : Outcome
-  pub promised : Reads (readPack pack) lent left outcome
+  pub promised : Reads (read_pack pack) lent left outcome
 
 -- `write_pack` ran over these tables and counts, and wrote
 pub record Written (t : Tables) (n : Counts) : Type 0 where
@@ -35,25 +35,25 @@ pub record Written (t : Tables) (n : Counts) : Type 0 where
   pub promised : WritesPack t n lent left (Length bytes)
 
 -- the pack, without what lay behind it in the room
-abbrev pub packIn : {t : Tables} {n : Counts} → Written t n → List ℕ
-packIn w = take w.bytes w.left
+abbrev pub pack_in : {t : Tables} {n : Counts} → Written t n → List ℕ
+pack_in w = take w.bytes w.left
 
 -- reading: accepted exactly when the bytes are the pack of a reading that keeps the rules; refused at the first broken field
 pub record ReadsPacks (pack : List ℕ) (run : Unpacked pack) : Type 0 where
-  pub accepted-exactly : (n : Counts) → (run.outcome ≡ Accepted n) ↔ ((q : Reading) × PackRules q × (packBytes q ≡ pack) × (n ≡ countsOf q))
-  pub refused-exactly : (x : Refusal) → (run.outcome ≡ Refused x) ↔ Broken pack x.number x.place
+  pub accepted_exactly : (n : Counts) → (run.outcome ≡ Accepted n) ↔ ((q : Reading) × PackRules q × (pack_bytes q ≡ pack) × (n ≡ counts_of q))
+  pub refused_exactly : (x : Refusal) → (run.outcome ≡ Refused x) ↔ Broken pack x.number x.place
   -- all who are handed the tables find that reading in them, so none of them refuses by 26
-  pub in-the-tables : (q : Reading) → PackRules q → packBytes q ≡ pack → handedIn run.left (countsOf q) ≡ some q
+  pub in_the_tables : (q : Reading) → PackRules q → pack_bytes q ≡ pack → handed_in run.left (counts_of q) ≡ some q
 
 -- out and back: a pack that was written is accepted, with the same counts and the same tables up to them
-pub record OutAndBack (t : Tables) (n : Counts) (w : Written t n) (run : Unpacked (packIn w)) : Type 0 where
+pub record OutAndBack (t : Tables) (n : Counts) (w : Written t n) (run : Unpacked (pack_in w)) : Type 0 where
   pub accepted : run.outcome ≡ Accepted n
   pub same_tables : used n run.left ≡ used n t
 
 -- "No pack exceeds 40,519 bytes"
 abbrev pub WithinLimit : {t : Tables} {n : Counts} → Written t n → Type 0
-WithinLimit w = w.bytes ≤ maxPackBytes
+WithinLimit w = w.bytes ≤ max_pack_bytes
 
 -- back and out: what was read is written as the same bytes
 abbrev pub BackAndOut : (pack : List ℕ) (run : Unpacked pack) → Type 0
-BackAndOut pack run = (n : Counts) → run.outcome ≡ Accepted n → (w : Written run.left n) → packIn w ≡ pack
+BackAndOut pack run = (n : Counts) → run.outcome ≡ Accepted n → (w : Written run.left n) → pack_in w ≡ pack

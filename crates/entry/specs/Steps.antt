@@ -1,17 +1,17 @@
 -- What entering names and lines promises, on bytes.
 -- Assumes nothing.
 use Rattle.std.specs.Prelude.{ℕ, ◌+◌, ◌*◌, ◌≤◌, ◌≡◌, true, cond, List, [], ◌∷◌, map, leb, ltb, length, take, drop}
-use Rattle.paper.specs.Sizes.{maxCategories, maxNameBytes, maxCategoryLines, maxRanges, maxReferences}
-use Rattle.paper.specs.Refusals.{rangesFull, referencesFull, categoryLinesFull}
+use Rattle.paper.specs.Sizes.{max_categories, max_name_bytes, max_category_lines, max_ranges, max_references}
+use Rattle.paper.specs.Refusals.{ranges_full, references_full, category_lines_full}
 use Rattle.paper.specs.Lists.{same, position_of, joined}
 use Rattle.paper.specs.CharDef.Line.{Line, blank, category, range}
 use Rattle.paper.specs.CharDef.Reading.{Reading, references}
-use Rattle.paper.specs.Computed.ReadText.{Found, found, wrong, Step, go_on, stop, intern, names-are, full_at, addRange, addDefinition}
+use Rattle.paper.specs.Computed.ReadText.{Found, found, wrong, Step, go_on, stop, intern, names_are, full_at, add_range, add_definition}
 use Rattle.paper.specs.Numbers.Bytes.{le}
-use Rattle.paper.specs.Tables.Layout.{definitionBytes, rangeTable, referenceTable, definitionSize, rangeSlotSize, referenceSize}
+use Rattle.paper.specs.Tables.Layout.{definition_bytes, range_table, reference_table, definition_size, range_slot_size, reference_size}
 use Rattle.paper.specs.Tables.Lent.{patch, padded}
 use Rattle.paper.specs.declared.Counts.{Counts}
-use Rattle.scan.specs.Marks.{wordsBytes, gapWidth}
+use Rattle.scan.specs.Marks.{words_bytes, gap_width}
 use Rattle.slot.specs.Laid.{Laid}
 use Rattle.entry.specs.declared.Names.{Names}
 use Rattle.entry.specs.declared.NamesStep.{NamesStep}
@@ -25,44 +25,44 @@ long l = length l
 
 -- the words of a range line's rest
 unfoldable pub words_of : List ℕ → List (List ℕ)
-words_of s = wordsBytes (gapWidth true) s
+words_of s = words_bytes (gap_width true) s
 
 -- a line entered, its names being bytes
-unfoldable pub enterBytes : Reading → Line → Step
+unfoldable pub enter_bytes : Reading → Line → Step
 unfolding intern references
-enterBytes r blank = go_on r
-enterBytes r (category name invoke group len) =
-    cond (leb maxCategoryLines (length r.definitions)) (stop categoryLinesFull)
-    (addDefinition (intern (name ∷ []) r.names) r (record { invoke = invoke; group = group; len = len }))
-enterBytes r (range lower upper names) =
-    cond (leb maxRanges (length r.ranges)) (stop rangesFull)
-    (cond (ltb maxReferences (references r.ranges + length names)) (stop referencesFull)
-    (addRange (intern names r.names) r lower upper names))
+enter_bytes r blank = go_on r
+enter_bytes r (category name invoke group len) =
+    cond (leb max_category_lines (length r.definitions)) (stop category_lines_full)
+    (add_definition (intern (name ∷ []) r.names) r (record { invoke = invoke; group = group; len = len }))
+enter_bytes r (range lower upper names) =
+    cond (leb max_ranges (length r.ranges)) (stop ranges_full)
+    (cond (ltb max_references (references r.ranges + length names)) (stop references_full)
+    (add_range (intern names r.names) r lower upper names))
 
-abbrev pub enterFoundBytes : Reading → Found → Step
-enterFoundBytes r (wrong n) = stop n
-enterFoundBytes r (found l) = enterBytes r l
+abbrev pub enter_found_bytes : Reading → Found → Step
+enter_found_bytes r (wrong n) = stop n
+enter_found_bytes r (found l) = enter_bytes r l
 
 -- ---- names
 
 -- names that stand in a part of the text can be entered, and their numbers have room from place n on
 pub record Ready (store slots refs text : List ℕ) (n count bytes start end : ℕ) : Type 0 where
-  pub store_long : maxNameBytes ≤ length store
-  pub slots-long : maxCategories ≤ length slots
+  pub store_long : max_name_bytes ≤ length store
+  pub slots_long : max_categories ≤ length slots
   pub names : List (List ℕ)
   pub laid : Laid names store slots count bytes
   pub order : start ≤ end
   pub within : end ≤ length text
-  pub room : referenceSize * (n + length (words_of (drop start (take end text)))) ≤ length refs
-  pub few : n + length (words_of (drop start (take end text))) ≤ maxReferences
+  pub room : reference_size * (n + length (words_of (drop start (take end text)))) ≤ length refs
+  pub few : n + length (words_of (drop start (take end text))) ≤ max_references
 
 -- all these were entered, and their numbers stand in the reference table
 pub record AllIn (names : List (List ℕ)) (ws : List (List ℕ)) (n : ℕ) (refs₀ store slots refs : List ℕ) (d : Names) : Type 0 where
-  pub now-names : List (List ℕ)
-  pub entered : intern ws names ≡ names-are now-names
-  pub laid-now : Laid now-names store slots d.count d.bytes
-  pub next-is : d.next ≡ n + length ws
-  pub put : refs ≡ patch (referenceSize * n) (joined (map (le referenceSize) (map (λ w. position_of same w now-names) ws))) refs₀
+  pub now_names : List (List ℕ)
+  pub entered : intern ws names ≡ names_are now_names
+  pub laid_now : Laid now_names store slots d.count d.bytes
+  pub next_is : d.next ≡ n + length ws
+  pub put : refs ≡ patch (reference_size * n) (joined (map (le reference_size) (map (λ w. position_of same w now_names) ws))) refs₀
 
 abbrev pub EntersAll : (store₀ slots₀ refs₀ : List ℕ) (n count bytes : ℕ) (ws : List (List ℕ)) (store₁ slots₁ refs₁ : List ℕ) → NamesStep → Type 0
 EntersAll store₀ slots₀ refs₀ n count bytes ws store₁ slots₁ refs₁ (Done d) =
@@ -83,25 +83,25 @@ pub record Memory : Type 0 where
 -- it holds this reading, and zero after it
 pub record Held (r : Reading) (m : Memory) (c : Counts) : Type 0 where
   pub names : Laid r.names m.store m.slots c.categories c.bytes
-  pub definitions-few : c.definitions ≤ maxCategoryLines
-  pub definitions-are : c.definitions ≡ length r.definitions
-  pub in-definitions : m.definitions ≡ padded (definitionSize * maxCategoryLines) (joined (map definitionBytes r.definitions))
-  pub ranges-few : c.ranges ≤ maxRanges
-  pub ranges-are : c.ranges ≡ length r.ranges
-  pub in-ranges : m.ranges ≡ padded (rangeSlotSize * maxRanges) (rangeTable r.ranges)
-  pub references-few : c.references ≤ maxReferences
-  pub references-are : c.references ≡ references r.ranges
-  pub in-references : m.references ≡ padded (referenceSize * maxReferences) (referenceTable r.ranges)
+  pub definitions_few : c.definitions ≤ max_category_lines
+  pub definitions_are : c.definitions ≡ length r.definitions
+  pub in_definitions : m.definitions ≡ padded (definition_size * max_category_lines) (joined (map definition_bytes r.definitions))
+  pub ranges_few : c.ranges ≤ max_ranges
+  pub ranges_are : c.ranges ≡ length r.ranges
+  pub in_ranges : m.ranges ≡ padded (range_slot_size * max_ranges) (range_table r.ranges)
+  pub references_few : c.references ≤ max_references
+  pub references_are : c.references ≡ references r.ranges
+  pub in_references : m.references ≡ padded (reference_size * max_references) (reference_table r.ranges)
 
 -- it holds some reading, and has the sizes
 pub record Working (m : Memory) (c : Counts) : Type 0 where
   pub reading : Reading
   pub held : Held reading m c
-  pub store_long : length m.store ≡ maxNameBytes
-  pub slots-long : length m.slots ≡ maxCategories
-  pub definitions-long : length m.definitions ≡ definitionSize * maxCategoryLines
-  pub ranges-long : length m.ranges ≡ rangeSlotSize * maxRanges
-  pub references-long : length m.references ≡ referenceSize * maxReferences
+  pub store_long : length m.store ≡ max_name_bytes
+  pub slots_long : length m.slots ≡ max_categories
+  pub definitions_long : length m.definitions ≡ definition_size * max_category_lines
+  pub ranges_long : length m.ranges ≡ range_slot_size * max_ranges
+  pub references_long : length m.references ≡ reference_size * max_references
 
 pub record Went (s : Step) (m : Memory) (c : Counts) : Type 0 where
   pub after : Reading

@@ -2,11 +2,11 @@
 ghost use Rattle.std.specs.Prelude.{◌≡◌, ◌+◌, ◌*◌, ◌≤◌, length, take, drop};
 ghost use Rattle.paper.specs.CharDef.Line.{category, range};
 ghost use Rattle.paper.specs.Pack.Fields.{flag};
-ghost use Rattle.paper.specs.Tables.Layout.{definitionSize, rangeSlotSize, definitionBytes, slotBytes};
+ghost use Rattle.paper.specs.Tables.Layout.{definition_size, range_slot_size, definition_bytes, slot_bytes};
 ghost use Rattle.paper.specs.Tables.Lent.{patch};
 ghost use Rattle.scan.specs.Asked.{Inside};
-ghost use Rattle.line.specs.Bytes.{lineBytes};
-ghost use Rattle.entry.specs.Steps.{long, words_of, Ready, EntersAll, Working, Stepped, enterBytes, enterFoundBytes};
+ghost use Rattle.line.specs.Bytes.{line_bytes};
+ghost use Rattle.entry.specs.Steps.{long, words_of, Ready, EntersAll, Working, Stepped, enter_bytes, enter_found_bytes};
 
 use category_line::{CategoryLine, Line, LineAnswer, RangeLine};
 use name::Entry;
@@ -49,8 +49,8 @@ fn flag_of(b: bool) -> u8
 
 // One more entry of the definition table.
 fn append_definition(definitions: &mut [u8], n: usize, invoke: bool, group: bool, length: u32)
-    requires { definitionSize * n + definitionSize ≤ long definitions.old }
-    ensures { definitions.new ≡ patch (definitionSize * n) (definitionBytes (record { invoke = invoke; group = group; len = length })) definitions.old }
+    requires { definition_size * n + definition_size ≤ long definitions.old }
+    ensures { definitions.new ≡ patch (definition_size * n) (definition_bytes (record { invoke = invoke; group = group; len = length })) definitions.old }
 {
     let at = DEFINITION_BYTES * n;
     table::put_u32(definitions, at, length);
@@ -60,8 +60,8 @@ fn append_definition(definitions: &mut [u8], n: usize, invoke: bool, group: bool
 
 // One more entry of the range table.
 fn append_range(ranges: &mut [u8], n: usize, lower: u16, upper: u16, first: u16, count: u16)
-    requires { rangeSlotSize * n + rangeSlotSize ≤ length ranges.old }
-    ensures { ranges.new ≡ patch (rangeSlotSize * n) (slotBytes (record { lower = lower; upper = upper; first = first; count = count })) ranges.old }
+    requires { range_slot_size * n + range_slot_size ≤ length ranges.old }
+    ensures { ranges.new ≡ patch (range_slot_size * n) (slot_bytes (record { lower = lower; upper = upper; first = first; count = count })) ranges.old }
 {
     let at = RANGE_BYTES * n;
     table::put_u16(ranges, at, lower);
@@ -152,7 +152,7 @@ fn enter_category(
 ) -> LineStep
     requires working { Working (record { store = names.old; slots = slots.old; definitions = definitions.old; ranges = ranges.now; references = references.now }) counts }
     requires inside { Inside text.now line.name.start line.name.end }
-    ensures { Stepped (λ x. enterBytes x (category (drop line.name.start (take line.name.end text.now)) line.invoke line.group line.length)) (record { store = names.old; slots = slots.old; definitions = definitions.old; ranges = ranges.now; references = references.now }) counts (record { store = names.new; slots = slots.new; definitions = definitions.new; ranges = ranges.now; references = references.now }) result }
+    ensures { Stepped (λ x. enter_bytes x (category (drop line.name.start (take line.name.end text.now)) line.invoke line.group line.length)) (record { store = names.old; slots = slots.old; definitions = definitions.old; ranges = ranges.now; references = references.now }) counts (record { store = names.new; slots = slots.new; definitions = definitions.new; ranges = ranges.now; references = references.now }) result }
 {
     let n = counts.definitions;
     if MAX_CATEGORY_LINES <= n {
@@ -197,7 +197,7 @@ fn enter_range(
 ) -> LineStep
     requires working { Working (record { store = names.old; slots = slots.old; definitions = definitions.now; ranges = ranges.old; references = references.old }) counts }
     requires inside { Inside text.now line.names.start line.names.end }
-    ensures { Stepped (λ x. enterBytes x (range line.lower line.upper (words_of (drop line.names.start (take line.names.end text.now))))) (record { store = names.old; slots = slots.old; definitions = definitions.now; ranges = ranges.old; references = references.old }) counts (record { store = names.new; slots = slots.new; definitions = definitions.now; ranges = ranges.new; references = references.new }) result }
+    ensures { Stepped (λ x. enter_bytes x (range line.lower line.upper (words_of (drop line.names.start (take line.names.end text.now))))) (record { store = names.old; slots = slots.old; definitions = definitions.now; ranges = ranges.old; references = references.old }) counts (record { store = names.new; slots = slots.new; definitions = definitions.now; ranges = ranges.new; references = references.new }) result }
 {
     let n = counts.ranges;
     if MAX_RANGES <= n {
@@ -257,7 +257,7 @@ pub fn enter_line(
 ) -> LineStep
     requires working { Working (record { store = names.old; slots = slots.old; definitions = definitions.old; ranges = ranges.old; references = references.old }) counts }
     requires inside { Inside text.now start end }
-    ensures { Stepped (λ x. enterFoundBytes x (lineBytes (drop start (take end text.now)))) (record { store = names.old; slots = slots.old; definitions = definitions.old; ranges = ranges.old; references = references.old }) counts (record { store = names.new; slots = slots.new; definitions = definitions.new; ranges = ranges.new; references = references.new }) result }
+    ensures { Stepped (λ x. enter_found_bytes x (line_bytes (drop start (take end text.now)))) (record { store = names.old; slots = slots.old; definitions = definitions.old; ranges = ranges.old; references = references.old }) counts (record { store = names.new; slots = slots.new; definitions = definitions.new; ranges = ranges.new; references = references.new }) result }
 {
     match line::read_line(text, start, end) {
         LineAnswer::Refused(k) => LineStep::Stop(k),

@@ -5,7 +5,7 @@ use mathlib.Core.Path.{◌≡◌, refl}
 use mathlib.Core.Bool.{true, false}
 use mathlib.Core.List.{List, [], ◌∷◌, map}
 use lib.ListN.{replicate}
-use Rattle.paper.specs.Computed.Rules.{keepsRules}
+use Rattle.paper.specs.Computed.Rules.{keeps_rules}
 use Rattle.paper.proofs.Examples.Rules.{RulesExample, named, defined, ranged, long, refers}
 
 -- k names of two ASCII letters, all different
@@ -36,6 +36,6 @@ readings =
     ∷ ranged ((0x41 ∷ []) ∷ []) (refers (0 ∷ []) ∷ refers (replicate 8192 0) ∷ []) false
     ∷ []
 
-pub readings-keep : map (λ e. keepsRules e.reading) readings ≡ map (λ e. e.keeps) readings
-unfolding readings keepsRules
-readings-keep = refl
+pub readings_keep : map (λ e. keeps_rules e.reading) readings ≡ map (λ e. e.keeps) readings
+unfolding readings keeps_rules
+readings_keep = refl

@@ -5,51 +5,51 @@ use native.Mathlib.Omega.{arith}
 use mathlib.Core.Path.{◌≡◌, refl}
 use mathlib.Core.Bool.{true, false}
 use borrow.Author.Tests.{le-leb, lt-leb}
-use Rattle.paper.specs.Refusals.{rangeParts, nameBytesFull, packVersion, packLeftOver, unkFields, unkEntriesFull}
+use Rattle.paper.specs.Refusals.{range_parts, name_bytes_full, pack_version, pack_left_over, unk_fields, unk_entries_full}
 use Rattle.paper.specs.Tables.Reader.{clears}
 
-pub below-4 : (n : ℕ) → n < rangeParts → false ≡ clears n
+pub below_4 : (n : ℕ) → n < range_parts → false ≡ clears n
 unfolding clears
-below-4 n h = rw (lt-leb rangeParts n h, lt-leb packVersion n (omega arith), lt-leb unkFields n (omega arith)) refl
+below_4 n h = rw (lt-leb range_parts n h, lt-leb pack_version n (omega arith), lt-leb unk_fields n (omega arith)) refl
 
-pub from-4 : (n : ℕ) → rangeParts ≤ n → n ≤ nameBytesFull → true ≡ clears n
+pub from_4 : (n : ℕ) → range_parts ≤ n → n ≤ name_bytes_full → true ≡ clears n
 unfolding clears
-from-4 n h k = rw (le-leb rangeParts n h, le-leb n nameBytesFull k) refl
+from_4 n h k = rw (le-leb range_parts n h, le-leb n name_bytes_full k) refl
 
-pub below-18 : (n : ℕ) → nameBytesFull < n → n < packVersion → false ≡ clears n
+pub below_18 : (n : ℕ) → name_bytes_full < n → n < pack_version → false ≡ clears n
 unfolding clears
-below-18 n h k = rw (lt-leb n nameBytesFull h, le-leb rangeParts n (omega arith), lt-leb packVersion n k, lt-leb unkFields n (omega arith)) refl
+below_18 n h k = rw (lt-leb n name_bytes_full h, le-leb range_parts n (omega arith), lt-leb pack_version n k, lt-leb unk_fields n (omega arith)) refl
 
-pub from-18 : (n : ℕ) → packVersion ≤ n → n ≤ packLeftOver → true ≡ clears n
+pub from_18 : (n : ℕ) → pack_version ≤ n → n ≤ pack_left_over → true ≡ clears n
 unfolding clears
-from-18 n h k = rw (lt-leb n nameBytesFull (omega arith), le-leb rangeParts n (omega arith), le-leb packVersion n h, le-leb n packLeftOver k) refl
+from_18 n h k = rw (lt-leb n name_bytes_full (omega arith), le-leb range_parts n (omega arith), le-leb pack_version n h, le-leb n pack_left_over k) refl
 
-pub below-23 : (n : ℕ) → packLeftOver < n → n < unkFields → false ≡ clears n
+pub below_23 : (n : ℕ) → pack_left_over < n → n < unk_fields → false ≡ clears n
 unfolding clears
-below-23 n h k =
-    rw (lt-leb n nameBytesFull (omega arith), le-leb rangeParts n (omega arith), le-leb packVersion n (omega arith), lt-leb n packLeftOver h, lt-leb unkFields n k) refl
+below_23 n h k =
+    rw (lt-leb n name_bytes_full (omega arith), le-leb range_parts n (omega arith), le-leb pack_version n (omega arith), lt-leb n pack_left_over h, lt-leb unk_fields n k) refl
 
-module _ (n : ℕ) (h : unkFields ≤ n) where
-  pub from-23 : n ≤ unkEntriesFull → true ≡ clears n
+module _ (n : ℕ) (h : unk_fields ≤ n) where
+  pub from_23 : n ≤ unk_entries_full → true ≡ clears n
   unfolding clears
-  from-23 k =
+  from_23 k =
       rw (
-        lt-leb n nameBytesFull (omega arith),
-        le-leb rangeParts n (omega arith),
-        le-leb packVersion n (omega arith),
-        lt-leb n packLeftOver (omega arith),
-        le-leb unkFields n h,
-        le-leb n unkEntriesFull k,
+        lt-leb n name_bytes_full (omega arith),
+        le-leb range_parts n (omega arith),
+        le-leb pack_version n (omega arith),
+        lt-leb n pack_left_over (omega arith),
+        le-leb unk_fields n h,
+        le-leb n unk_entries_full k,
       ) refl
 
-  pub above-25 : unkEntriesFull < n → false ≡ clears n
+  pub above_25 : unk_entries_full < n → false ≡ clears n
   unfolding clears
-  above-25 k =
+  above_25 k =
       rw (
-        lt-leb n nameBytesFull (omega arith),
-        le-leb rangeParts n (omega arith),
-        le-leb packVersion n (omega arith),
-        lt-leb n packLeftOver (omega arith),
-        le-leb unkFields n h,
-        lt-leb n unkEntriesFull k,
+        lt-leb n name_bytes_full (omega arith),
+        le-leb range_parts n (omega arith),
+        le-leb pack_version n (omega arith),
+        lt-leb n pack_left_over (omega arith),
+        le-leb unk_fields n h,
+        lt-leb n unk_entries_full k,
       ) refl

@@ -4,7 +4,7 @@ use Rattle.std.specs.Prelude.{ℕ, ◌<◌, ◌≡◌, List}
 use Rattle.paper.specs.declared.Counts.{Counts}
 use Rattle.paper.specs.declared.Outcome.{Outcome}
 use Rattle.paper.specs.declared.Outcome.TheVariants.{Accepted, Refused}
-use Rattle.exported.specs.Answer.{code_of, countsAfter}
+use Rattle.exported.specs.Answer.{code_of, counts_after}
 
 pub record Sixteen (n : Counts) : Type 0 where
   pub categories : n.categories < 0x1_0000
@@ -19,4 +19,4 @@ Exportable (Refused x) = x.place < 0x1_0000_0000
 
 pub record Gives (o : Outcome) (before after : List ℕ) (r : ℕ) : Type 0 where
   pub number : r ≡ code_of o
-  pub counts : after ≡ countsAfter o before
+  pub counts : after ≡ counts_after o before

@@ -2,7 +2,7 @@
 ghost use Rattle.std.specs.Prelude.{◌≡◌, cond, ◌≤◌, length};
 ghost use Rattle.paper.specs.Tables.Reader.{clears};
 ghost use Rattle.paper.specs.Tables.Lent.{patch, zeroed};
-ghost use Rattle.exported.specs.Answer.{countsSize, countBytes};
+ghost use Rattle.exported.specs.Answer.{counts_size, count_bytes};
 ghost use Rattle.exported.specs.Room.{Exportable, Sixteen, Gives};
 
 use paper::{Counts, Outcome};
@@ -57,9 +57,9 @@ pub fn leave_counts(counts: &mut [u8], size: usize, number: u32)
 }
 
 fn put_counts(counts: &mut [u8], n: Counts)
-    requires counts_size_in_bounds { countsSize ≤ length counts.old }
+    requires counts_size_in_bounds { counts_size ≤ length counts.old }
     requires sixteen { Sixteen n }
-    ensures { counts.new ≡ patch 0 (countBytes n) counts.old }
+    ensures { counts.new ≡ patch 0 (count_bytes n) counts.old }
 {
     table::put_u16(counts, 0, n.categories as u16);
     table::put_u16(counts, DEFINITIONS_AT, n.definitions as u16);
@@ -70,7 +70,7 @@ fn put_counts(counts: &mut [u8], n: Counts)
 
 // An outcome as C gets it: the number, and the counts or what a refusal leaves in their place.
 pub fn give(outcome: Outcome, counts: &mut [u8]) -> u64
-    requires counts_size_in_bounds { countsSize ≤ length counts.old }
+    requires counts_size_in_bounds { counts_size ≤ length counts.old }
     requires exportable { Exportable outcome }
     ensures { Gives outcome counts.old counts.new result }
 {

@@ -5,7 +5,7 @@ use Rattle.std.proofs.Math.Option.{Option, none, some}
 use Rattle.paper.specs.Rows.Lookup.{Looked, gives, refuses}
 
 -- the row of a name that was looked for
-abbrev pub foundRow : Looked (Option ℕ) → List ℕ
-foundRow (gives (some number)) = number ∷ []
-foundRow (gives none) = []
-foundRow (refuses n) = []
+abbrev pub found_row : Looked (Option ℕ) → List ℕ
+found_row (gives (some number)) = number ∷ []
+found_row (gives none) = []
+found_row (refuses n) = []

@@ -1,10 +1,10 @@
 // DEFAULT's number: what a row has where its ranges name no category. Both builders look it up once, before they walk.
 ghost use Rattle.std.specs.Prelude.{◌≡◌, ◌≤◌};
-ghost use Rattle.paper.specs.Sizes.{maxCategories};
+ghost use Rattle.paper.specs.Sizes.{max_categories};
 ghost use Rattle.paper.specs.Rows.Covering.{default};
-ghost use Rattle.paper.specs.Rows.Numbers.{findName};
-ghost use Rattle.cover.specs.Fallback.{fallbackRow};
-ghost use Rattle.fallback.specs.Fallback.{foundRow};
+ghost use Rattle.paper.specs.Rows.Numbers.{find_name};
+ghost use Rattle.cover.specs.Fallback.{fallback_row};
+ghost use Rattle.fallback.specs.Fallback.{found_row};
 
 use by_name::CategoryFound;
 use cover::Fallback;
@@ -13,8 +13,8 @@ const DEFAULT: [u8; 7] = *b"DEFAULT";
 
 // DEFAULT's number, found by its name.
 pub fn fallback_of(names: &[u8], categories: &[u8], count: usize) -> Fallback
-    requires { count ≤ maxCategories }
-    ensures { fallbackRow result ≡ foundRow (findName names.now categories.now count default) }
+    requires { count ≤ max_categories }
+    ensures { fallback_row result ≡ found_row (find_name names.now categories.now count default) }
 {
     let name = DEFAULT;
     match by_name::find_category(names, categories, count, &name) {

@@ -6,32 +6,32 @@ use mathlib.Core.Path.{◌≡◌, refl, sym, ap, ap₂, ◌∙◌}
 use mathlib.Core.List.{List}
 use lib.ListN.{length, set, length-set}
 use lib.Seq.{sets}
-use Rattle.paper.specs.Pack.Fields.{byteWidth}
+use Rattle.paper.specs.Pack.Fields.{byte_width}
 use Rattle.paper.specs.Tables.Lent.{patch}
-use Rattle.paper.proofs.Tables.Laws.{patch-in}
-use Rattle.field.specs.Bits.{bitsValue, bytes_at}
+use Rattle.paper.proofs.Tables.Laws.{patch_in}
+use Rattle.field.specs.Bits.{bits_value, bytes_at}
 
-pub bytes-size : (p : List ℕ) (at n : ℕ) → length (bytes_at p at n) ≡ n
+pub bytes_size : (p : List ℕ) (at n : ℕ) → length (bytes_at p at n) ≡ n
 unfolding bytes_at
-bytes-size p at zero = refl
-bytes-size p at (suc n) = ap suc (bytes-size p (at + 8) n)
+bytes_size p at zero = refl
+bytes_size p at (suc n) = ap suc (bytes_size p (at + 8) n)
 
 pub record Copying (p : List ℕ) (at n to : ℕ) (l₀ l : List ℕ) (i : ℕ) : Type 0 where
   pub upto : i ≤ n
   pub long : length l ≡ length l₀
-  pub left : sets l (to + i) (bytes_at p (at + byteWidth * i) (n - i)) ≡ sets l₀ to (bytes_at p at n)
+  pub left : sets l (to + i) (bytes_at p (at + byte_width * i) (n - i)) ≡ sets l₀ to (bytes_at p at n)
 
-pub none-copied : (p : List ℕ) (at n to : ℕ) (l₀ : List ℕ) → Copying p at n to l₀ l₀ 0
-none-copied p at n to l₀ =
+pub none_copied : (p : List ℕ) (at n to : ℕ) (l₀ : List ℕ) → Copying p at n to l₀ l₀ 0
+none_copied p at n to l₀ =
     let a : to + 0 ≡ to = omega arith in
     let b : at + 8 * 0 ≡ at = omega arith in
     let d : n - 0 ≡ n = omega arith in
     record { upto = zero-le; long = refl; left = ap₂ (λ k m. sets l₀ k m) a (ap₂ (λ x y. bytes_at p x y) b d) }
 
-pub one-copied : (p : List ℕ) (at n to : ℕ) (l₀ l : List ℕ) (i v : ℕ) → Copying p at n to l₀ l i → i < n → v ≡ bitsValue p (at + byteWidth * i) byteWidth
+pub one_copied : (p : List ℕ) (at n to : ℕ) (l₀ l : List ℕ) (i v : ℕ) → Copying p at n to l₀ l i → i < n → v ≡ bits_value p (at + byte_width * i) byte_width
     → Copying p at n to l₀ (set l (to + i) v) (i + 1)
 unfolding bytes_at
-one-copied p at n to l₀ l i v z lt e =
+one_copied p at n to l₀ l i v z lt e =
     let k : n - i ≡ suc (n - (i + 1)) = omega arith in
     let a : to + (i + 1) ≡ suc (to + i) = omega arith in
     let b : at + 8 * (i + 1) ≡ at + 8 * i + 8 = omega arith in
@@ -44,10 +44,10 @@ one-copied p at n to l₀ l i v z lt e =
           ∙ z.left;
     }
 
-pub all-copied : (p : List ℕ) (at n to : ℕ) (l₀ l : List ℕ) (i : ℕ) → Copying p at n to l₀ l i → n ≤ i → to + n ≤ length l₀
+pub all_copied : (p : List ℕ) (at n to : ℕ) (l₀ l : List ℕ) (i : ℕ) → Copying p at n to l₀ l i → n ≤ i → to + n ≤ length l₀
     → l ≡ patch to (bytes_at p at n) l₀
 unfolding bytes_at
-all-copied p at n to l₀ l i z h r =
+all_copied p at n to l₀ l i z h r =
     let k : n - i ≡ 0 = omega arith in
-    let s = bytes-size p at n in
-    ap (λ m. sets l (to + i) (bytes_at p (at + 8 * i) m)) (sym k) ∙ z.left ∙ patch-in to (bytes_at p at n) l₀ (omega arith)
+    let s = bytes_size p at n in
+    ap (λ m. sets l (to + i) (bytes_at p (at + 8 * i) m)) (sym k) ∙ z.left ∙ patch_in to (bytes_at p at n) l₀ (omega arith)

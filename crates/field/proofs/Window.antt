@@ -13,14 +13,14 @@ use native.Mathlib.Nat.{one-mul, mod-lt, lt_of_lt_of_le, mod-one, mul-add-div_ri
 use native.Mathlib.Numerals.{add-one}
 use lib.Pow.{shl_exact, pow_mono, pow_pos, pow-add, shr-shr, high, mod-pow-add}
 use lib.ListN.{get_or}
-use Rattle.field.specs.Bits.{bit_at, bitsValue, bytesValue}
+use Rattle.field.specs.Bits.{bit_at, bits_value, bytes_value}
 
-lt-or-by : (j n : ℕ) (b : Bool) → ltb j n ≡ b → (j < n) ⊎ (n ≤ j)
-lt-or-by j n true e = inl (ltb-true j n e)
-lt-or-by j n false e = inr (ltb-false j n e)
+lt_or_by : (j n : ℕ) (b : Bool) → ltb j n ≡ b → (j < n) ⊎ (n ≤ j)
+lt_or_by j n true e = inl (ltb-true j n e)
+lt_or_by j n false e = inr (ltb-false j n e)
 
-lt-or-ge : (j n : ℕ) → (j < n) ⊎ (n ≤ j)
-lt-or-ge j n = lt-or-by j n (ltb j n) refl
+lt_or_ge : (j n : ℕ) → (j < n) ⊎ (n ≤ j)
+lt_or_ge j n = lt_or_by j n (ltb j n) refl
 
 -- the low 8 bits of a number do not see what stands above them
 low_bits : (M b r k : ℕ) → r + 1 + k ≡ 8 → (M * 256 + b) / 2 ^ k % 2 ≡ b / 2 ^ k % 2
@@ -33,11 +33,11 @@ low_bits M b r k e =
     ∙ mul-add-mod_self_right (M * 2 ^ r) 2 (b / 2 ^ k)
 
 -- bit j, counted from the top, of the number that m bytes are
-digit : (s : List ℕ) (i m j : ℕ) → ((k : ℕ) → get_or s k 0 < 256) → j < m * 8 → bytesValue s i m / 2 ^ (m * 8 - 1 - j) % 2 ≡ get_or s (i + j / 8) 0 / 2 ^ (7 - j % 8) % 2
-unfolding bytesValue
+digit : (s : List ℕ) (i m j : ℕ) → ((k : ℕ) → get_or s k 0 < 256) → j < m * 8 → bytes_value s i m / 2 ^ (m * 8 - 1 - j) % 2 ≡ get_or s (i + j / 8) 0 / 2 ^ (7 - j % 8) % 2
+unfolding bytes_value
 digit s i zero j B h = absurd (omega (arith, h))
 digit s i (suc m) j B h =
-    let M : ℕ = bytesValue s i m in
+    let M : ℕ = bytes_value s i m in
     let b : ℕ = get_or s (i + m) 0 in
     ⊎_elim
     (λ (lt : j < m * 8).
@@ -52,16 +52,16 @@ digit s i (suc m) j B h =
     ap (λ (x : ℕ). (M * 256 + b) / 2 ^ x % 2) e
     ∙ low_bits M b (j % 8) (7 - j % 8) (omega arith)
     ∙ ap (λ (x : ℕ). get_or s (i + x) 0 / 2 ^ (7 - j % 8) % 2) q)
-    (lt-or-ge j (m * 8))
+    (lt_or_ge j (m * 8))
 
-pub window : (s : List ℕ) (p m n : ℕ) → ((k : ℕ) → get_or s k 0 < 256) → p % 8 + n ≤ m * 8 → bitsValue s p n ≡ bytesValue s (p / 8) m / 2 ^ (m * 8 - p % 8 - n) % 2 ^ n
-unfolding bitsValue bit_at
+pub window : (s : List ℕ) (p m n : ℕ) → ((k : ℕ) → get_or s k 0 < 256) → p % 8 + n ≤ m * 8 → bits_value s p n ≡ bytes_value s (p / 8) m / 2 ^ (m * 8 - p % 8 - n) % 2 ^ n
+unfolding bits_value bit_at
 window s p m zero B h = sym (mod-one _)
 window s p m (suc n) B h =
-    let N : ℕ = bytesValue s (p / 8) m in
+    let N : ℕ = bytes_value s (p / 8) m in
     let e : ℕ = m * 8 - p % 8 - suc n in
     let up : m * 8 - p % 8 - n ≡ e + 1 = omega (arith, add-one n, h) in
-    let ih : bitsValue s p n ≡ N / 2 ^ e / 2 ^ 1 % 2 ^ n =
+    let ih : bits_value s p n ≡ N / 2 ^ e / 2 ^ 1 % 2 ^ n =
     window s p m n B (omega (arith, add-one n, h)) ∙ ap (λ (x : ℕ). N / 2 ^ x % 2 ^ n) up ∙ ap (λ (x : ℕ). x % 2 ^ n) (sym (shr-shr N e 1)) in
     let at : m * 8 - 1 - (p % 8 + n) ≡ e = omega (arith, add-one n) in
     let byte : p / 8 + (p % 8 + n) / 8 ≡ (p + n) / 8 = omega arith in
@@ -86,5 +86,5 @@ mask_is n h = rw (one_up n h) (pow_pos n)
 pub masked : (x n : ℕ) → n ≤ 32 → bit_and x ((1 * 2 ^ n) % 2 ^ 64 - 1) ≡ x % 2 ^ n
 masked x n h = ap (λ (y : ℕ). bit_and x (y - 1)) (one_up n h) ∙ and_mask x n
 
-pub masked-lt : (x n : ℕ) → n ≤ 32 → bit_and x ((1 * 2 ^ n) % 2 ^ 64 - 1) < 2 ^ 32
-masked-lt x n h = subst (λ (y : ℕ). y < 2 ^ 32) (sym (masked x n h)) (lt_of_lt_of_le (mod-lt x (pow_pos n)) (pow_mono h))
+pub masked_lt : (x n : ℕ) → n ≤ 32 → bit_and x ((1 * 2 ^ n) % 2 ^ 64 - 1) < 2 ^ 32
+masked_lt x n h = subst (λ (y : ℕ). y < 2 ^ 32) (sym (masked x n h)) (lt_of_lt_of_le (mod-lt x (pow_pos n)) (pow_mono h))

@@ -1,9 +1,9 @@
 -- What the cursor promises: the paper's own readers at the place where it stands, for any bytes, any place and any width.
 -- Assumes nothing.
 use Rattle.std.specs.Prelude.{ℕ, ◌+◌, ◌*◌, ◌≤◌, ◌≡◌, Bool, true, false, cond, ◌&&◌, List, leb, drop}
-use Rattle.paper.specs.Refusals.{packEnds}
-use Rattle.paper.specs.Pack.Fields.{byteWidth, bits_of}
-use Rattle.paper.specs.Computed.ReadPack.{FieldStep, gave, broke, number, free, bytesField}
+use Rattle.paper.specs.Refusals.{pack_ends}
+use Rattle.paper.specs.Pack.Fields.{byte_width, bits_of}
+use Rattle.paper.specs.Computed.ReadPack.{FieldStep, gave, broke, number, free, bytes_field}
 use Rattle.paper.specs.Tables.Lent.{patch}
 use Rattle.field.specs.declared.Field.{Field}
 use Rattle.field.specs.declared.Field.TheVariants.{Value, Refused}
@@ -15,8 +15,8 @@ abbrev pub widest : ℕ
 widest = 32
 
 -- the last position that a cursor can have: no pack in any machine's memory reaches it
-abbrev pub lastPlace : ℕ
-lastPlace = 18446744073709551615
+abbrev pub last_place : ℕ
+last_place = 18446744073709551615
 
 -- the bits from a place on
 unfoldable pub rest : List ℕ → ℕ → List ℕ
@@ -32,17 +32,17 @@ said p (Refused r) = broke r.number r.place
 -- the field of w bits at a place, whatever its number. A width that no field has is refused as a field that is cut
 unfoldable pub field_at : List ℕ → ℕ → ℕ → FieldStep ℕ
 unfolding rest
-field_at p at w = cond (leb 1 w && (leb w widest && leb (at + w) lastPlace)) (number w free at (rest p at)) (broke packEnds at)
+field_at p at w = cond (leb 1 w && (leb w widest && leb (at + w) last_place)) (number w free at (rest p at)) (broke pack_ends at)
 
 -- ---- bytes as one field
 
-abbrev pub anyBytes : List ℕ → Bool
-anyBytes bs = true
+abbrev pub any_bytes : List ℕ → Bool
+any_bytes bs = true
 
 -- the n bytes at a place, whatever they are. No bytes are no field
-unfoldable pub bytesFieldAt : List ℕ → ℕ → ℕ → FieldStep (List ℕ)
+unfoldable pub bytes_field_at : List ℕ → ℕ → ℕ → FieldStep (List ℕ)
 unfolding rest
-bytesFieldAt p at n = cond (leb 1 n && leb (at + byteWidth * n) lastPlace) (bytesField n anyBytes at (rest p at)) (broke packEnds at)
+bytes_field_at p at n = cond (leb 1 n && leb (at + byte_width * n) last_place) (bytes_field n any_bytes at (rest p at)) (broke pack_ends at)
 
 -- they stand in the room from `to` on, and no other byte of it changed
 pub record CopiedTo (p : List ℕ) (g : FieldStep (List ℕ)) (to : ℕ) (room₀ room₁ : List ℕ) (next : ℕ) : Type 0 where
@@ -55,15 +55,15 @@ pub record NotCopied (g : FieldStep (List ℕ)) (room₀ room₁ : List ℕ) (nu
   pub kept : room₁ ≡ room₀
 
 abbrev pub Runs : List ℕ → (at n to : ℕ) (room₀ room₁ : List ℕ) → Run → Type 0
-Runs p at n to room₀ room₁ (run.Copied c) = CopiedTo p (bytesFieldAt p at n) to room₀ room₁ c.at
-Runs p at n to room₀ room₁ (run.Refused r) = NotCopied (bytesFieldAt p at n) room₀ room₁ r.number r.place
+Runs p at n to room₀ room₁ (run.Copied c) = CopiedTo p (bytes_field_at p at n) to room₀ room₁ c.at
+Runs p at n to room₀ room₁ (run.Refused r) = NotCopied (bytes_field_at p at n) room₀ room₁ r.number r.place
 
 -- ---- so many bits are left
 
 -- a pack of `len` bytes has w bits behind a place, and a cursor can stand behind them
 pub record Left (len at w : ℕ) : Type 0 where
-  pub inside : at + w ≤ byteWidth * len
-  pub counted : at + w ≤ lastPlace
+  pub inside : at + w ≤ byte_width * len
+  pub counted : at + w ≤ last_place
 
 abbrev pub Has : ℕ → ℕ → ℕ → Bool → Type 0
 Has len at w true = Left len at w

@@ -1,10 +1,10 @@
 // A bit cursor over a pack: fields are read one after another from a bit position, most significant bit first. Every function takes whatever
 // bytes, position and width it is handed.
 ghost use Rattle.std.specs.Prelude.{◌≡◌, ◌+◌, ◌*◌, ◌/◌, ◌≤◌, ◌<◌, length, get_or};
-ghost use Rattle.paper.specs.Pack.Fields.{byteWidth};
+ghost use Rattle.paper.specs.Pack.Fields.{byte_width};
 ghost use Rattle.paper.specs.Tables.Lent.{patch};
-ghost use Rattle.field.specs.Bits.{bitsValue, bytesValue, bytes_at};
-ghost use Rattle.field.specs.Cursor.{widest, lastPlace, Has, said, field_at, Runs};
+ghost use Rattle.field.specs.Bits.{bits_value, bytes_value, bytes_at};
+ghost use Rattle.field.specs.Cursor.{widest, last_place, Has, said, field_at, Runs};
 
 use paper::{PACK_ENDS, Refusal};
 
@@ -88,8 +88,8 @@ fn joined(a: u64, b: u64, c: u64, d: u64, e: u64) -> u64
 
 // The five bytes from i on as one number. Near the end of the pack those that are missing count as 0.
 fn five(s: &[u8], i: usize) -> u64
-    requires { i ≤ lastPlace / byteWidth }
-    ensures { result ≡ bytesValue s.now i 5 }
+    requires { i ≤ last_place / byte_width }
+    ensures { result ≡ bytes_value s.now i 5 }
 {
     if i + WINDOW <= s.len() {
         return joined(
@@ -112,7 +112,7 @@ fn five(s: &[u8], i: usize) -> u64
 // The number that the bits from a place on are: five bytes, a shift and a mask.
 fn bits_at(pack: &[u8], at: usize, width: usize) -> u32
     requires { width ≤ widest }
-    ensures { result ≡ bitsValue pack.now at width }
+    ensures { result ≡ bits_value pack.now at width }
 {
     let all = five(pack, at / BYTE_WIDTH);
     let one: u64 = 1;
@@ -124,7 +124,7 @@ fn bits_at(pack: &[u8], at: usize, width: usize) -> u32
 // A pack of `len` bytes has so many bytes and bits behind a place, and a cursor can stand behind them. Nothing is multiplied by the length.
 fn has_bits(len: usize, at: usize, bytes: usize, bits: usize) -> bool
     requires { bits ≤ widest }
-    ensures { Has len at (byteWidth * bytes + bits) result }
+    ensures { Has len at (byte_width * bytes + bits) result }
 {
     let first = at / BYTE_WIDTH;
     if len < first {
@@ -149,7 +149,7 @@ fn has_bits(len: usize, at: usize, bytes: usize, bits: usize) -> bool
 
 // The byte whose bits start at a place: the low bits of one byte of the pack and the high bits of the next.
 fn byte_at(pack: &[u8], at: usize) -> u8
-    ensures { result ≡ bitsValue pack.now at byteWidth }
+    ensures { result ≡ bits_value pack.now at byte_width }
 {
     let first = at / BYTE_WIDTH;
     let two = byte_or_0(pack, first) * BYTE_VALUES + byte_or_0(pack, first + 1);
@@ -159,7 +159,7 @@ fn byte_at(pack: &[u8], at: usize) -> u8
 
 // Bytes of the pack from a place on, into lent room.
 fn copy_bytes(pack: &[u8], at: usize, n: usize, room: &mut [u8], to: usize)
-    requires n_bound { at + byteWidth * n ≤ lastPlace }
+    requires n_bound { at + byte_width * n ≤ last_place }
     requires n_in_bounds { to + n ≤ length room.old }
     ensures { room.new ≡ patch to (bytes_at pack.now at n) room.old }
 {

@@ -1,9 +1,9 @@
 // The lines of a text read into tables of the sizes: the reading's tables, or zero where a line is refused. `char_def` above judges the room and
 // the text before.
 ghost use Rattle.std.specs.Prelude.{◌≡◌, ◌≤◌, length};
-ghost use Rattle.paper.specs.Sizes.{maxTextBytes};
-ghost use Rattle.paper.specs.Tables.Layout.{inRoom};
-ghost use Rattle.room.specs.Sized.{Sized, noTables, ReadInto};
+ghost use Rattle.paper.specs.Sizes.{max_text_bytes};
+ghost use Rattle.paper.specs.Tables.Layout.{in_room};
+ghost use Rattle.room.specs.Sized.{Sized, no_tables, ReadInto};
 ghost use Rattle.lines.specs.Lines.{read_all};
 ghost use Rattle.fill.specs.Filled.{TablesFilled};
 
@@ -20,8 +20,8 @@ fn fill_tables(
     ranges: &mut [u8],
     references: &mut [u8],
 ) -> Walk
-    requires text_len_bound { length text.now ≤ maxTextBytes }
-    requires references_value { record { names = names.now; categories = categories.old; definitions = definitions.old; ranges = ranges.old; references = references.old } ≡ inRoom noTables }
+    requires text_len_bound { length text.now ≤ max_text_bytes }
+    requires references_value { record { names = names.now; categories = categories.old; definitions = definitions.old; ranges = ranges.old; references = references.old } ≡ in_room no_tables }
     ensures { TablesFilled (read_all text.now) (record { names = names.exit.now; categories = categories.new; definitions = definitions.new; ranges = ranges.new; references = references.new }) result }
 {
     let mut slots = [0u64; MAX_CATEGORIES];
@@ -43,7 +43,7 @@ pub fn read_lines(
     ranges: &mut [u8],
     references: &mut [u8],
 ) -> Outcome
-    requires text_len_bound { length text.now ≤ maxTextBytes }
+    requires text_len_bound { length text.now ≤ max_text_bytes }
     requires sized { Sized (record { names = names.now; categories = categories.old; definitions = definitions.old; ranges = ranges.old; references = references.old }) }
     ensures { ReadInto (read_all text.now) (record { names = names.exit.now; categories = categories.new; definitions = definitions.new; ranges = ranges.new; references = references.new }) result }
 {

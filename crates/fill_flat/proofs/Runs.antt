@@ -12,14 +12,14 @@ use lib.Seq.{get_or-set_same, get_or-set_other}
 use borrow.Author.Tests.{lt-ltb, le-ltb, ltb-false}
 use Rattle.fill_flat.specs.Walked.{smaller, Spread}
 
-pub second-smaller : (a b : ℕ) → b < a → b ≡ smaller a b
-second-smaller a b h = rw (lt-ltb b a h)
+pub second_smaller : (a b : ℕ) → b < a → b ≡ smaller a b
+second_smaller a b h = rw (lt-ltb b a h)
 
-pub first-smaller : (a b : ℕ) → a ≤ b → a ≡ smaller a b
-first-smaller a b h = rw (le-ltb b a h)
+pub first_smaller : (a b : ℕ) → a ≤ b → a ≡ smaller a b
+first_smaller a b h = rw (le-ltb b a h)
 
-pub smaller-most : (a b end : ℕ) → end ≡ smaller a b → end ≤ b
-smaller-most a b end e = go (ltb b a) refl
+pub smaller_most : (a b end : ℕ) → end ≡ smaller a b → end ≤ b
+smaller_most a b end e = go (ltb b a) refl
   where
     go : (x : Bool) → ltb b a ≡ x → end ≤ b
     go true q = let u : end ≡ b = e ∙ rw q in omega arith
@@ -33,8 +33,8 @@ module _ (from e : ℕ) (l : List ℕ) where
       never k h i = omega arith
 
   module _ (i : ℕ) (s : List ℕ) (z : Spread from i e l s) where
-    pub spread-more : from ≤ i → i < length l → Spread from (i + 1) e l (set s i e)
-    spread-more h k =
+    pub spread_more : from ≤ i → i < length l → Spread from (i + 1) e l (set s i e)
+    spread_more h k =
         record {
           long = length-set s i e ∙ z.long;
           before = λ j b. get_or-set_other s i j e 0 (λ q. omega (arith, q, b)) ∙ z.before j b;
@@ -48,8 +48,8 @@ module _ (from e : ℕ) (l : List ℕ) where
         ]
 
     -- the run ends at `to`, or with the list
-    pub spread-done : (to end : ℕ) → end ≡ smaller to (length l) → end ≤ i → Spread from to e l s
-    spread-done to end d h = record { long = z.long; before = z.before; there = λ k a b c. z.there k a (far k b c) c }
+    pub spread_done : (to end : ℕ) → end ≡ smaller to (length l) → end ≤ i → Spread from to e l s
+    spread_done to end d h = record { long = z.long; before = z.before; there = λ k a b c. z.there k a (far k b c) c }
       where
         far : (k : ℕ) → k < to → k < length l → k < i
         far k b c = go (ltb (length l) to) refl

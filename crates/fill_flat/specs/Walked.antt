@@ -3,10 +3,10 @@
 -- Assumes nothing.
 use Rattle.std.specs.Prelude.{ℕ, ◌≤◌, ◌<◌, ◌≡◌, cond, List, [], ltb, length, get_or}
 use Rattle.std.proofs.lemmas.List.Edits.{sets}
-use Rattle.paper.specs.Sizes.{maxRowPlaces}
+use Rattle.paper.specs.Sizes.{max_row_places}
 use Rattle.paper.specs.Lists.{joined}
 use Rattle.paper.specs.Rows.Flat.{RowFound, entry_of, offset_of}
-use Rattle.cover.specs.Slots.{slotsGot}
+use Rattle.cover.specs.Slots.{slots_got}
 use Rattle.fill_rows.specs.Walked.{rows_of, Readable}
 
 -- the two lent slices
@@ -27,7 +27,7 @@ pub record Spread (from to e : ℕ) (l s : List ℕ) : Type 0 where
 pub record Buildable (ranges references : List ℕ) (count : ℕ) (ds : List ℕ) : Type 0 where
   pub readable : Readable ranges references count
   pub one : length ds ≤ 1
-  pub offsets-fit : length (joined (rows_of ds (slotsGot 0 count ranges) references)) ≤ maxRowPlaces
+  pub offsets_fit : length (joined (rows_of ds (slots_got 0 count ranges) references)) ≤ max_row_places
 
 -- the entry of c, whichever row is found
 abbrev pub EntryAt : List ℕ → List (List ℕ) → ℕ → ℕ → Type 0

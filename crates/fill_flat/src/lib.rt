@@ -1,11 +1,11 @@
 // One pass over the rows into the flat index and its pool: each row goes behind the one before, and its entry, offset * 256 + length, to the code
 // points from its boundary up to the next.
 ghost use Rattle.std.specs.Prelude.{◌≡◌, ◌+◌, ◌≤◌, length};
-ghost use Rattle.paper.specs.Sizes.{bmpSize, maxRowPlaces};
+ghost use Rattle.paper.specs.Sizes.{bmp_size, max_row_places};
 ghost use Rattle.paper.specs.Rows.Flat.{entry_of};
-ghost use Rattle.cover.specs.Slots.{slotsGot};
-ghost use Rattle.cover.specs.Fallback.{fallbackRow};
-ghost use Rattle.fill_rows.specs.Walked.{boundariesOf, rows_of, Clean};
+ghost use Rattle.cover.specs.Slots.{slots_got};
+ghost use Rattle.cover.specs.Fallback.{fallback_row};
+ghost use Rattle.fill_rows.specs.Walked.{boundaries_of, rows_of, Clean};
 ghost use Rattle.fill_flat.specs.Walked.{smaller, Spread, Buildable, FlatFilled};
 
 use cover::Fallback;
@@ -26,7 +26,7 @@ fn smaller_of(a: usize, b: usize) -> usize
 }
 
 fn entry_of(offset: usize, len: usize) -> u32
-    requires { offset + len ≤ maxRowPlaces }
+    requires { offset + len ≤ max_row_places }
     ensures { result ≡ entry_of offset len }
 {
     (offset * OFFSET_UNIT + len) as u32
@@ -56,8 +56,8 @@ fn fill_flat(
     index: &mut [u32],
     pool: &mut [u16],
 )
-    requires { Buildable ranges.now references.now count (fallbackRow fallback) × (Clean seen.old × (length index.old ≤ bmpSize)) }
-    ensures { FlatFilled (boundariesOf (slotsGot 0 count ranges.now)) (rows_of (fallbackRow fallback) (slotsGot 0 count ranges.now) references.now) (record { index = index.entry.now; pool = pool.old }) (record { index = index.exit.now; pool = pool.new }) }
+    requires { Buildable ranges.now references.now count (fallback_row fallback) × (Clean seen.old × (length index.old ≤ bmp_size)) }
+    ensures { FlatFilled (boundaries_of (slots_got 0 count ranges.now)) (rows_of (fallback_row fallback) (slots_got 0 count ranges.now) references.now) (record { index = index.entry.now; pool = pool.old }) (record { index = index.exit.now; pool = pool.new }) }
 {
     let mut w = window::open_window(ranges, count, 0, near);
     let mut rows: u32 = 0;
@@ -93,8 +93,8 @@ pub fn fill_fresh(
     index: &mut [u32],
     pool: &mut [u16],
 )
-    requires { Buildable ranges.now references.now count (fallbackRow fallback) × (length index.old ≤ bmpSize) }
-    ensures { FlatFilled (boundariesOf (slotsGot 0 count ranges.now)) (rows_of (fallbackRow fallback) (slotsGot 0 count ranges.now) references.now) (record { index = index.entry.now; pool = pool.old }) (record { index = index.exit.now; pool = pool.new }) }
+    requires { Buildable ranges.now references.now count (fallback_row fallback) × (length index.old ≤ bmp_size) }
+    ensures { FlatFilled (boundaries_of (slots_got 0 count ranges.now)) (rows_of (fallback_row fallback) (slots_got 0 count ranges.now) references.now) (record { index = index.entry.now; pool = pool.old }) (record { index = index.exit.now; pool = pool.new }) }
 {
     let mut seen = [0u32; MAX_CATEGORIES];
     let mut near = [0u8; NEAR_BYTES];

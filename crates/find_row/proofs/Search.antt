@@ -12,11 +12,11 @@ use lib.ListN.{length, get_or}
 use mir.Facts.{and_yes, eqb_yes}
 use borrow.Author.Tests.{leb-true, leb-false}
 use Rattle.paper.specs.CharDef.Reading.{Reading}
-use Rattle.paper.specs.Rows.Covering.{boundaries, categoriesAt, rows}
+use Rattle.paper.specs.Rows.Covering.{boundaries, categories_at, rows}
 use Rattle.paper.specs.Rows.Flat.{RowFound}
-use Rattle.paper.specs.Rows.Lookup.{fromZero}
-use Rattle.paper.proofs.Rows.Rising.{risingFrom}
-use Rattle.paper.proofs.Rows.Search.{found-one, found-row, from_zero, rising-at}
+use Rattle.paper.specs.Rows.Lookup.{from_zero}
+use Rattle.paper.proofs.Rows.Rising.{rising_from}
+use Rattle.paper.proofs.Rows.Search.{found_one, found_row_lem, from_zero_lem, rising_at}
 use Rattle.find_row.specs.Sought.{RowSought, found, none_below}
 
 -- ---- the loop
@@ -28,8 +28,8 @@ pub record Search (bs : List ℕ) (c lo hi : ℕ) : Type 0 where
   pub low : 0 < lo → get_or bs lo 0 ≤ c
   pub high : hi < length bs → c < get_or bs hi 0
 
-pub search-start : (bs : List ℕ) (c n : ℕ) → n ≡ length bs → Search bs c 0 n
-search-start bs c n e = record { ordered = omega arith; inside = omega arith; apart = λ h. omega arith; low = λ h. absurd (nothing h); high = λ h. absurd (whole h) }
+pub search_start : (bs : List ℕ) (c n : ℕ) → n ≡ length bs → Search bs c 0 n
+search_start bs c n e = record { ordered = omega arith; inside = omega arith; apart = λ h. omega arith; low = λ h. absurd (nothing h); high = λ h. absurd (whole h) }
   where
     nothing : 0 < 0 → ⊥
     nothing h = omega arith
@@ -37,18 +37,18 @@ search-start bs c n e = record { ordered = omega arith; inside = omega arith; ap
     whole : n < length bs → ⊥
     whole h = omega arith
 
-pub search-up : (bs : List ℕ) (c lo hi mid : ℕ) → Search bs c lo hi → lo < mid → mid < hi → get_or bs mid 0 ≤ c → Search bs c mid hi
-search-up bs c lo hi mid s h k e = record { ordered = omega arith; inside = s.inside; apart = λ h. k; low = λ h. e; high = s.high }
+pub search_up : (bs : List ℕ) (c lo hi mid : ℕ) → Search bs c lo hi → lo < mid → mid < hi → get_or bs mid 0 ≤ c → Search bs c mid hi
+search_up bs c lo hi mid s h k e = record { ordered = omega arith; inside = s.inside; apart = λ h. k; low = λ h. e; high = s.high }
 
-pub search-down : (bs : List ℕ) (c lo hi mid : ℕ) → Search bs c lo hi → lo < mid → mid < hi → c < get_or bs mid 0 → Search bs c lo mid
-search-down bs c lo hi mid s h k e =
+pub search_down : (bs : List ℕ) (c lo hi mid : ℕ) → Search bs c lo hi → lo < mid → mid < hi → c < get_or bs mid 0 → Search bs c lo mid
+search_down bs c lo hi mid s h k e =
     let i : hi ≤ length bs = s.inside in
     record { ordered = omega arith; inside = omega arith; apart = λ z. h; low = s.low; high = λ h. e }
 
 module _ (bs : List ℕ) (c : ℕ) where
   -- nothing is left between the two
-  row-there : (lo hi : ℕ) → Search bs c lo hi → hi - lo ≤ 1 → 0 < length bs → get_or bs lo 0 ≤ c → RowFound bs c lo
-  row-there lo hi s h some below = record { inside = let p = closed in let q = upto in omega arith; up-to = below; next-above = next }
+  row_there : (lo hi : ℕ) → Search bs c lo hi → hi - lo ≤ 1 → 0 < length bs → get_or bs lo 0 ≤ c → RowFound bs c lo
+  row_there lo hi s h some below = record { inside = let p = closed in let q = upto in omega arith; up_to = below; next_above = next }
     where
       closed : lo < hi
       closed = s.apart some
@@ -62,12 +62,12 @@ module _ (bs : List ℕ) (c : ℕ) where
           let e : hi ≡ suc lo = omega (arith, add-one lo) in
           rw e at (s.high (omega (arith, add-one lo)))
 
-  pub search-done : (lo hi : ℕ) → Search bs c lo hi → hi - lo ≤ 1 → RowSought bs c lo
-  search-done (suc lo) hi s h = found (row-there (suc lo) hi s h some (s.low (suc-le-suc zero-le)))
+  pub search_done : (lo hi : ℕ) → Search bs c lo hi → hi - lo ≤ 1 → RowSought bs c lo
+  search_done (suc lo) hi s h = found (row_there (suc lo) hi s h some (s.low (suc-le-suc zero-le)))
     where
       some : 0 < length bs
       some = let p : suc lo ≤ hi = s.ordered in let q : hi ≤ length bs = s.inside in omega (arith, add-one lo)
-  search-done zero hi s h = go (leb (get_or bs 0 0) c) refl (length bs) refl
+  search_done zero hi s h = go (leb (get_or bs 0 0) c) refl (length bs) refl
     where
       go : (z : Bool) → leb (get_or bs 0 0) c ≡ z → (n : ℕ) → length bs ≡ n → RowSought bs c 0
       go false e n k = none_below refl (λ h. leb-false (get_or bs 0 0) c e)
@@ -75,38 +75,38 @@ module _ (bs : List ℕ) (c : ℕ) where
         where
           none : 0 < length bs → length bs ≡ 0 → ⊥
           none h k = omega arith
-      go true e (suc n) k = found (row-there 0 hi s h (subst (λ m. 0 < m) (sym k) (suc-le-suc zero-le)) (leb-true (get_or bs 0 0) c e))
+      go true e (suc n) k = found (row_there 0 hi s h (subst (λ m. 0 < m) (sym k) (suc-le-suc zero-le)) (leb-true (get_or bs 0 0) c e))
 
 -- ---- what the answer says
 
 -- among boundaries from 0 a row is found
-pub sought-found : (bs : List ℕ) (c i : ℕ) → T (fromZero bs) → RowSought bs c i → RowFound bs c i
-sought-found bs c i z (found f) = f
-sought-found [] c i z (none_below e h) = absurd z
-sought-found (b ∷ bs) c i z (none_below e h) = absurd (never (eqb_yes z) (h (suc-le-suc zero-le)))
+pub sought_found : (bs : List ℕ) (c i : ℕ) → T (from_zero bs) → RowSought bs c i → RowFound bs c i
+sought_found bs c i z (found f) = f
+sought_found [] c i z (none_below e h) = absurd z
+sought_found (b ∷ bs) c i z (none_below e h) = absurd (never (eqb_yes z) (h (suc-le-suc zero-le)))
   where
     never : b ≡ 0 → c < b → ⊥
     never p q = omega arith
 
-not_found : (low c i : ℕ) (bs : List ℕ) → T (risingFrom low bs) → RowFound bs c i → (0 < length bs → c < get_or bs 0 0) → ⊥
+not_found : (low c i : ℕ) (bs : List ℕ) → T (rising_from low bs) → RowFound bs c i → (0 < length bs → c < get_or bs 0 0) → ⊥
 not_found low c i [] t f h = not-suc-le-zero f.inside
 not_found low c zero (b ∷ bs) t f h =
     let k : c < b = h (suc-le-suc zero-le) in
-    let l : b ≤ c = f.up-to in
+    let l : b ≤ c = f.up_to in
     omega arith
 not_found low c (suc i) (b ∷ bs) t f h =
     let k : c < b = h (suc-le-suc zero-le) in
-    let l : get_or bs i 0 ≤ c = f.up-to in
-    let m : suc b ≤ get_or bs i 0 = rising-at (suc b) bs i (and_yes (leb low b) (risingFrom (suc b) bs) t).1 (le_of_suc-le-suc f.inside) in
+    let l : get_or bs i 0 ≤ c = f.up_to in
+    let m : suc b ≤ get_or bs i 0 = rising_at (suc b) bs i (and_yes (leb low b) (rising_from (suc b) bs) t).1 (le_of_suc-le-suc f.inside) in
     omega arith
 
 -- among a reading's it is the row that the covering rule fills
-pub sought-row : (r : Reading) (c i : ℕ) → RowSought (boundaries r) c i → get_or (rows r) i [] ≡ categoriesAt r c
-sought-row r c i s = found-row r c i (sought-found (boundaries r) c i (subst (λ bs. T (fromZero bs)) (sym (from_zero r).1) tt) s)
+pub sought_row : (r : Reading) (c i : ℕ) → RowSought (boundaries r) c i → get_or (rows r) i [] ≡ categories_at r c
+sought_row r c i s = found_row_lem r c i (sought_found (boundaries r) c i (subst (λ bs. T (from_zero bs)) (sym (from_zero_lem r).1) tt) s)
 
 -- among boundaries that rise, from wherever, there is one answer
-pub sought-one : (low c i j : ℕ) (bs : List ℕ) → T (risingFrom low bs) → RowSought bs c i → RowSought bs c j → i ≡ j
-sought-one low c i j bs t (found f) (found g) = found-one low c i j bs t f g
-sought-one low c i j bs t (none_below e h) (none_below f k) = e ∙ sym f
-sought-one low c i j bs t (found f) (none_below e h) = absurd (not_found low c i bs t f h)
-sought-one low c i j bs t (none_below e h) (found f) = absurd (not_found low c j bs t f h)
+pub sought_one : (low c i j : ℕ) (bs : List ℕ) → T (rising_from low bs) → RowSought bs c i → RowSought bs c j → i ≡ j
+sought_one low c i j bs t (found f) (found g) = found_one low c i j bs t f g
+sought_one low c i j bs t (none_below e h) (none_below f k) = e ∙ sym f
+sought_one low c i j bs t (found f) (none_below e h) = absurd (not_found low c i bs t f h)
+sought_one low c i j bs t (none_below e h) (found f) = absurd (not_found low c j bs t f h)

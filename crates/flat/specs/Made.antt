@@ -6,12 +6,12 @@ use Rattle.paper.specs.CharDef.Reading.{Reading}
 use Rattle.paper.specs.Rows.Covering.{boundaries, rows}
 use Rattle.fill_flat.specs.Walked.{FlatRoom}
 use Rattle.flat.specs.declared.Built.{Built}
-use Rattle.flat.specs.Built.{answerTo, given, leaves}
+use Rattle.flat.specs.Built.{answer_to, given, leaves}
 
 -- refused or built, by every reading that has these boundaries and rows
 pub record Builds (r : Reading) (lent after : FlatRoom) (a : Built) : Type 0 where
-  pub answer : a ≡ given r (answerTo (some r) lent)
-  pub memory : after ≡ leaves r (answerTo (some r) lent) lent
+  pub answer : a ≡ given r (answer_to (some r) lent)
+  pub memory : after ≡ leaves r (answer_to (some r) lent) lent
 
 abbrev pub BuildsOf : List ℕ → List (List ℕ) → FlatRoom → FlatRoom → Built → Type 0
 BuildsOf bs ws lent after a = (r : Reading) → bs ≡ boundaries r → ws ≡ rows r → Builds r lent after a

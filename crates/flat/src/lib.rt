@@ -1,8 +1,8 @@
 // The flat table: for each code point of the BMP an entry that says where its categories stand in a pool. One walk finds the exact need and the
 // longest row, a second one fills.
-ghost use Rattle.cover.specs.Slots.{slotsGot};
-ghost use Rattle.cover.specs.Fallback.{fallbackRow};
-ghost use Rattle.fill_rows.specs.Walked.{boundariesOf, rows_of};
+ghost use Rattle.cover.specs.Slots.{slots_got};
+ghost use Rattle.cover.specs.Fallback.{fallback_row};
+ghost use Rattle.fill_rows.specs.Walked.{boundaries_of, rows_of};
 ghost use Rattle.fill_flat.specs.Walked.{Buildable};
 ghost use Rattle.flat.specs.Built.{BuildsFlat};
 ghost use Rattle.flat.specs.Made.{BuildsOf};
@@ -26,8 +26,8 @@ fn build_flat(
     index: &mut [u32],
     pool: &mut [u16],
 ) -> Built
-    requires { Buildable ranges.now references.now count (fallbackRow fallback) }
-    ensures { BuildsOf (boundariesOf (slotsGot 0 count ranges.now)) (rows_of (fallbackRow fallback) (slotsGot 0 count ranges.now) references.now) (record { index = index.entry.now; pool = pool.old }) (record { index = index.exit.now; pool = pool.new }) result }
+    requires { Buildable ranges.now references.now count (fallback_row fallback) }
+    ensures { BuildsOf (boundaries_of (slots_got 0 count ranges.now)) (rows_of (fallback_row fallback) (slots_got 0 count ranges.now) references.now) (record { index = index.entry.now; pool = pool.old }) (record { index = index.exit.now; pool = pool.new }) result }
 {
     let need = fill_rows::rows_need(ranges, references, count, fallback);
     let places = need.places;

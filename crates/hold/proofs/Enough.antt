@@ -12,19 +12,19 @@ use Rattle.paper.proofs.Tables.Trip.{Enough, says}
 use Rattle.table_rules.proofs.Tests.{refused}
 
 module _ (a b c d e : ℕ) (n : Counts) where
-  pub not-enough : (Enough a b c d e n → ⊥) → false ≡ enough a b c d e n
-  not-enough f = refused (enough a b c d e n) (λ t. f (says a b c d e n t))
+  pub not_enough : (Enough a b c d e n → ⊥) → false ≡ enough a b c d e n
+  not_enough f = refused (enough a b c d e n) (λ t. f (says a b c d e n t))
 
-  pub is-enough : Enough a b c d e n → true ≡ enough a b c d e n
+  pub is_enough : Enough a b c d e n → true ≡ enough a b c d e n
   unfolding enough
-  is-enough h =
+  is_enough h =
       sym (T→true _
       (yes_and (leb n.categories 512) _ (yes_leb h.limits.0)
       (yes_and (leb n.bytes 16384) _ (yes_leb h.limits.1.0)
       (yes_and (leb n.definitions 512) _ (yes_leb h.limits.1.1.0)
       (yes_and (leb n.ranges 2048) _ (yes_leb h.limits.1.1.1.0)
       (yes_and (leb n.references 8192) _ (yes_leb h.limits.1.1.1.1)
-      (yes_and (leb n.bytes a) _ (yes_leb h.for-names)
-      (yes_and (leb (4 * n.categories) b) _ (yes_leb h.for-categories)
-      (yes_and (leb (6 * n.definitions) c) _ (yes_leb h.for-definitions)
-      (yes_and (leb (8 * n.ranges) d) (leb (2 * n.references) e) (yes_leb h.for-ranges) (yes_leb h.for-references)))))))))))
+      (yes_and (leb n.bytes a) _ (yes_leb h.for_names)
+      (yes_and (leb (4 * n.categories) b) _ (yes_leb h.for_categories)
+      (yes_and (leb (6 * n.definitions) c) _ (yes_leb h.for_definitions)
+      (yes_and (leb (8 * n.ranges) d) (leb (2 * n.references) e) (yes_leb h.for_ranges) (yes_leb h.for_references)))))))))))

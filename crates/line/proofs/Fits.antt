@@ -14,43 +14,43 @@ use Rattle.paper.specs.CharDef.Line as paper
 use Rattle.paper.specs.CharDef.BadLine.{Misfit}
 use Rattle.paper.specs.Computed.ReadText.{Found, found, wrong, line_of}
 use Rattle.paper.proofs.Apart.{zero_one}
-use Rattle.paper.proofs.CharDef.Sound.{line-sound}
-use Rattle.paper.proofs.CharDef.Complete.{line-complete}
-use Rattle.paper.proofs.CharDef.BadLine.{line-misfit}
+use Rattle.paper.proofs.CharDef.Sound.{line_sound}
+use Rattle.paper.proofs.CharDef.Complete.{line_complete}
+use Rattle.paper.proofs.CharDef.BadLine.{line_misfit}
 use Rattle.scan.specs.declared.Part.{Part}
 use Rattle.category_line.specs.declared.Line.{Line}
 use Rattle.category_line.specs.declared.Line.TheVariants.{Blank, Category, Range}
 use Rattle.category_line.specs.declared.LineAnswer.{LineAnswer}
 use Rattle.category_line.specs.declared.LineAnswer.TheVariants.{Read, Refused}
-use Rattle.scan.specs.Marks.{gapWidth, wordsBytes}
-use Rattle.scan.specs.Answer.{bytes_of, bodyPart}
+use Rattle.scan.specs.Marks.{gap_width, words_bytes}
+use Rattle.scan.specs.Answer.{bytes_of, body_part}
 use Rattle.category_line.specs.Answer.{said, Placed, Says}
-use Rattle.line.specs.Bytes.{lineBytes, inBytes}
-use Rattle.line.specs.Fits.{Reads, StandsFor, a-blank, a-category, a-range, AnswerFits, reads, refuses}
-use Rattle.line.proofs.LineBridge.{line-bridge}
+use Rattle.line.specs.Bytes.{line_bytes, in_bytes}
+use Rattle.line.specs.Fits.{Reads, StandsFor, a_blank, a_category, a_range, AnswerFits, reads, refuses}
+use Rattle.line.proofs.LineBridge.{line_bridge}
 
 -- ---- an answer by the paper's relations
 
 module _ (text cs : List ℕ) where
-  stood : {l : Line} {line : paper.Line} → StandsFor text l line → said text (Read l) ≡ inBytes (found line)
-  stood a-blank = refl
-  stood (a-category {l = l} e) = ap (λ n. found (category n l.invoke l.group l.length)) e
-  stood (a-range {l = l} e) = ap (λ ns. found (range l.lower l.upper ns)) e
+  stood : {l : Line} {line : paper.Line} → StandsFor text l line → said text (Read l) ≡ in_bytes (found line)
+  stood a_blank = refl
+  stood (a_category {l = l} e) = ap (λ n. found (category n l.invoke l.group l.length)) e
+  stood (a_range {l = l} e) = ap (λ ns. found (range l.lower l.upper ns)) e
 
-  fits_said : {r : LineAnswer} → AnswerFits text cs r → said text r ≡ inBytes (line_of cs)
-  fits_said (reads {line = line} f s) = stood s ∙ ap inBytes (sym (line-complete cs line f))
-  fits_said (refuses {n = n} m) = ap inBytes (sym ((line-misfit cs n).1 m))
+  fits_said : {r : LineAnswer} → AnswerFits text cs r → said text r ≡ in_bytes (line_of cs)
+  fits_said (reads {line = line} f s) = stood s ∙ ap in_bytes (sym (line_complete cs line f))
+  fits_said (refuses {n = n} m) = ap in_bytes (sym ((line_misfit cs n).1 m))
 
-  said_fits : (r : LineAnswer) → said text r ≡ inBytes (line_of cs) → AnswerFits text cs r
+  said_fits : (r : LineAnswer) → said text r ≡ in_bytes (line_of cs) → AnswerFits text cs r
   said_fits r h = go r (line_of cs) refl h
     where
-      go : (r : LineAnswer) (f : Found) → line_of cs ≡ f → said text r ≡ inBytes f → AnswerFits text cs r
-      go (Refused n) (wrong m) e h = let d : m ≡ n = cc in refuses ((line-misfit cs n).0 (e ∙ ap wrong d))
+      go : (r : LineAnswer) (f : Found) → line_of cs ≡ f → said text r ≡ in_bytes f → AnswerFits text cs r
+      go (Refused n) (wrong m) e h = let d : m ≡ n = cc in refuses ((line_misfit cs n).0 (e ∙ ap wrong d))
       go (Refused n) (found blank) e h = zero_one (cc)
       go (Refused n) (found (category a i g k)) e h = zero_one (cc)
       go (Refused n) (found (range a b ns)) e h = zero_one (cc)
       go (Read Blank) (wrong m) e h = zero_one (cc)
-      go (Read Blank) (found blank) e h = reads (line-sound cs blank e) a-blank
+      go (Read Blank) (found blank) e h = reads (line_sound cs blank e) a_blank
       go (Read Blank) (found (category a i g k)) e h = zero_one (cc)
       go (Read Blank) (found (range a b ns)) e h = zero_one (cc)
       go (Read (Category l)) (wrong m) e h = zero_one (cc)
@@ -58,66 +58,66 @@ module _ (text cs : List ℕ) where
       go (Read (Category l)) (found (category a i g k)) e h =
           let d : bytes_of text l.name ≡ utf8 a = cc in
           let q : category a i g k ≡ category a l.invoke l.group l.length = cc in
-          reads (line-sound cs _ (e ∙ ap found q)) (a-category d)
+          reads (line_sound cs _ (e ∙ ap found q)) (a_category d)
       go (Read (Category l)) (found (range a b ns)) e h = zero_one (cc)
       go (Read (Range l)) (wrong m) e h = zero_one (cc)
       go (Read (Range l)) (found blank) e h = zero_one (cc)
       go (Read (Range l)) (found (category a i g k)) e h = zero_one (cc)
       go (Read (Range l)) (found (range a b ns)) e h =
-          let d : wordsBytes (gapWidth true) (bytes_of text l.names) ≡ map utf8 ns = cc in
+          let d : words_bytes (gap_width true) (bytes_of text l.names) ≡ map utf8 ns = cc in
           let q : range a b ns ≡ range l.lower l.upper ns = cc in
-          reads (line-sound cs _ (e ∙ ap found q)) (a-range d)
+          reads (line_sound cs _ (e ∙ ap found q)) (a_range d)
 
 -- ---- of a line whose characters are cs
 
 module _ (text : List ℕ) (start end : ℕ) (cs : List ℕ) (spelled : drop start (take end text) ≡ utf8 cs) where
-  by-chars : lineBytes (drop start (take end text)) ≡ inBytes (line_of cs)
-  by-chars = ap lineBytes spelled ∙ line-bridge cs
+  by_chars : line_bytes (drop start (take end text)) ≡ in_bytes (line_of cs)
+  by_chars = ap line_bytes spelled ∙ line_bridge cs
 
   -- the promise is that the answer fits, and stands in its places
-  pub line-fits : (r : LineAnswer) → Reads text start end r ↔ (AnswerFits text cs r × Placed text (bodyPart text start end) r)
-  line-fits r = (
-    (λ p. (said_fits text cs r (p.says ∙ by-chars), p.placed)),
-    (λ q. record { says = fits_said text cs q.0 ∙ sym by-chars; placed = q.1 }),
+  pub line_fits : (r : LineAnswer) → Reads text start end r ↔ (AnswerFits text cs r × Placed text (body_part text start end) r)
+  line_fits r = (
+    (λ p. (said_fits text cs r (p.says ∙ by_chars), p.placed)),
+    (λ q. record { says = fits_said text cs q.0 ∙ sym by_chars; placed = q.1 }),
   )
 
   module _ {r : LineAnswer} (p : Reads text start end r) where
     -- a line is answered exactly where a line fits, and it stands for that one
-    pub reads-line : (line : paper.Line) → LineFits cs line → (l : Line) × ((r ≡ Read l) × StandsFor text l line)
-    reads-line line f = go r refl ((line-fits r).0 p).0
+    pub reads_line : (line : paper.Line) → LineFits cs line → (l : Line) × ((r ≡ Read l) × StandsFor text l line)
+    reads_line line f = go r refl ((line_fits r).0 p).0
       where
         go : (s : LineAnswer) → r ≡ s → AnswerFits text cs s → (l : Line) × ((r ≡ Read l) × StandsFor text l line)
         go (Read l) e (reads {line = m} g q) =
-            let a : line_of cs ≡ found m = line-complete cs m g in
-            let b : line_of cs ≡ found line = line-complete cs line f in
+            let a : line_of cs ≡ found m = line_complete cs m g in
+            let b : line_of cs ≡ found line = line_complete cs line f in
             let d : m ≡ line = cc in
             (l, (e, subst (StandsFor text l) d q))
         go (Refused n) e (refuses m) =
-            let a : line_of cs ≡ wrong n = (line-misfit cs n).1 m in
-            let b : line_of cs ≡ found line = line-complete cs line f in
+            let a : line_of cs ≡ wrong n = (line_misfit cs n).1 m in
+            let b : line_of cs ≡ found line = line_complete cs line f in
             zero_one (cc)
 
     pub line_read : (l : Line) → r ≡ Read l → (line : paper.Line) × (LineFits cs line × StandsFor text l line)
-    line_read l e = go (subst (AnswerFits text cs) e ((line-fits r).0 p).0)
+    line_read l e = go (subst (AnswerFits text cs) e ((line_fits r).0 p).0)
       where
         go : AnswerFits text cs (Read l) → (line : paper.Line) × (LineFits cs line × StandsFor text l line)
         go (reads {line = line} f q) = (line, (f, q))
 
     -- and a number exactly where that is what is wrong with them
-    pub refuses-line : (n : ℕ) → (r ≡ Refused n) ↔ Misfit cs n
-    refuses-line n = (λ e. misfit (subst (AnswerFits text cs) e ((line-fits r).0 p).0), λ m. go r refl ((line-fits r).0 p).0 m)
+    pub refuses_line : (n : ℕ) → (r ≡ Refused n) ↔ Misfit cs n
+    refuses_line n = (λ e. misfit (subst (AnswerFits text cs) e ((line_fits r).0 p).0), λ m. go r refl ((line_fits r).0 p).0 m)
       where
         misfit : AnswerFits text cs (Refused n) → Misfit cs n
         misfit (refuses m) = m
 
         go : (s : LineAnswer) → r ≡ s → AnswerFits text cs s → Misfit cs n → r ≡ Refused n
         go (Read l) e (reads {line = line} f q) m =
-            let a : line_of cs ≡ wrong n = (line-misfit cs n).1 m in
-            let b : line_of cs ≡ found line = line-complete cs line f in
+            let a : line_of cs ≡ wrong n = (line_misfit cs n).1 m in
+            let b : line_of cs ≡ found line = line_complete cs line f in
             zero_one (cc)
         go (Refused k) e (refuses j) m =
-            let a : line_of cs ≡ wrong n = (line-misfit cs n).1 m in
-            let b : line_of cs ≡ wrong k = (line-misfit cs k).1 j in
+            let a : line_of cs ≡ wrong n = (line_misfit cs n).1 m in
+            let b : line_of cs ≡ wrong k = (line_misfit cs k).1 j in
             let d : k ≡ n = cc in
             e ∙ ap Refused d
 

@@ -12,15 +12,15 @@ use lib.ListN.{length, take, drop, get_or}
 use lib.Seq.{length-take-le, take-suc, drop-append-le}
 use borrow.Author.Tests.{eq-eqb, ne_eqb}
 use Rattle.paper.specs.Lists.{push}
-use Rattle.paper.specs.Text.Scalar.{dot, digit0, letterX}
+use Rattle.paper.specs.Text.Scalar.{dot, digit0, letter_x}
 use Rattle.paper.specs.CharDef.Line.{begins0x}
 use Rattle.paper.specs.Computed.ReadText.{parts}
-use Rattle.paper.proofs.Lists.Facts.{pushAll, pushAll-first}
+use Rattle.paper.proofs.Lists.Facts.{push_all, push_all_first}
 use Rattle.paper.proofs.Lists.Parts.{nothing, uncons}
 use Rattle.line.specs.declared.DotsAt.{DotsAt}
 use Rattle.line.specs.declared.DotsAt.TheVariants.{At, Nowhere}
 use Rattle.line.specs.Asked.{Cut, Uncut, Dots}
-use Rattle.line.proofs.LineBridge.{parts-off, parts-off₂}
+use Rattle.line.proofs.LineBridge.{parts_off, parts_off₂}
 
 -- ---- two bytes in front
 
@@ -33,82 +33,82 @@ module _ (l : List ℕ) (at end : ℕ) where
       let e : at + 1 + 1 ≡ at + 2 = omega arith in
       uncons l at end (omega arith) k ∙ ap (λ s. get_or l at 0 ∷ s) (uncons l (at + 1) end h k ∙ ap (λ n. get_or l (at + 1) 0 ∷ drop n (take end l)) e)
 
-  pub begins-short : end - at < 2 → end ≤ length l → false ≡ begins0x (drop at (take end l))
-  begins-short m k = elim (dec_le end at) [
+  pub begins_short : end - at < 2 → end ≤ length l → false ≡ begins0x (drop at (take end l))
+  begins_short m k = elim (dec_le end at) [
     | yes h ↦ ap begins0x (sym (nothing l at end h))
     | no h ↦ ap begins0x (sym (one (omega arith) m k))
   ]
 
   module _ (h : at + 1 < end) (k : end ≤ length l) where
-    pub begins-no : (get_or l at 0 ≡ digit0 → ⊥) → false ≡ begins0x (drop at (take end l))
-    begins-no n = sym (ap begins0x (two h k) ∙ ap (λ x. x && eqb (get_or l (at + 1) 0) letterX) (ne_eqb (get_or l at 0) digit0 n))
+    pub begins_no : (get_or l at 0 ≡ digit0 → ⊥) → false ≡ begins0x (drop at (take end l))
+    begins_no n = sym (ap begins0x (two h k) ∙ ap (λ x. x && eqb (get_or l (at + 1) 0) letter_x) (ne_eqb (get_or l at 0) digit0 n))
 
-    pub begins-no₂ : get_or l at 0 ≡ digit0 → (get_or l (at + 1) 0 ≡ letterX → ⊥) → false ≡ begins0x (drop at (take end l))
-    begins-no₂ e n = sym (ap begins0x (two h k) ∙ ap₂ ◌&&◌ (eq-eqb (get_or l at 0) digit0 e) (ne_eqb (get_or l (at + 1) 0) letterX n))
+    pub begins_no₂ : get_or l at 0 ≡ digit0 → (get_or l (at + 1) 0 ≡ letter_x → ⊥) → false ≡ begins0x (drop at (take end l))
+    begins_no₂ e n = sym (ap begins0x (two h k) ∙ ap₂ ◌&&◌ (eq-eqb (get_or l at 0) digit0 e) (ne_eqb (get_or l (at + 1) 0) letter_x n))
 
-    pub begins-yes : get_or l at 0 ≡ digit0 → get_or l (at + 1) 0 ≡ letterX → true ≡ begins0x (drop at (take end l))
-    begins-yes e f = sym (ap begins0x (two h k) ∙ ap₂ ◌&&◌ (eq-eqb (get_or l at 0) digit0 e) (eq-eqb (get_or l (at + 1) 0) letterX f))
+    pub begins_yes : get_or l at 0 ≡ digit0 → get_or l (at + 1) 0 ≡ letter_x → true ≡ begins0x (drop at (take end l))
+    begins_yes e f = sym (ap begins0x (two h k) ∙ ap₂ ◌&&◌ (eq-eqb (get_or l at 0) digit0 e) (eq-eqb (get_or l (at + 1) 0) letter_x f))
 
-add-two : (n : ℕ) → n + 1 + 1 ≡ n + 2
-add-two n = omega arith
+add_two : (n : ℕ) → n + 1 + 1 ≡ n + 2
+add_two n = omega arith
 
 -- ---- the pieces between `..`
 
-pushAll-more : (s : List ℕ) (x : ℕ) (q : List (List ℕ)) → pushAll (s ++ (x ∷ [])) q ≡ pushAll s (push x q)
-pushAll-more [] x q = refl
-pushAll-more (y ∷ s) x q = ap (push y) (pushAll-more s x q)
+push_all_more : (s : List ℕ) (x : ℕ) (q : List (List ℕ)) → push_all (s ++ (x ∷ [])) q ≡ push_all s (push x q)
+push_all_more [] x q = refl
+push_all_more (y ∷ s) x q = ap (push y) (push_all_more s x q)
 
 module _ (l : List ℕ) (start at : ℕ) (h : start ≤ at) (k : at < length l) where
-  part-more : drop start (take (at + 1) l) ≡ drop start (take at l) ++ (get_or l at 0 ∷ [])
-  part-more =
+  part_more : drop start (take (at + 1) l) ≡ drop start (take at l) ++ (get_or l at 0 ∷ [])
+  part_more =
       let n : start ≤ length (take at l) = omega (arith, length-take-le at l (omega arith)) in
       ap (λ m. drop start (take m l)) (add-one at) ∙ ap (drop start) (take-suc l at 0 k) ∙ drop-append-le start (take at l) (get_or l at 0 ∷ []) n
 
-  more : (q : List (List ℕ)) → pushAll (drop start (take at l)) (push (get_or l at 0) q) ≡ pushAll (drop start (take (at + 1) l)) q
-  more q = sym (ap (λ s. pushAll s q) part-more ∙ pushAll-more (drop start (take at l)) (get_or l at 0) q)
+  more : (q : List (List ℕ)) → push_all (drop start (take at l)) (push (get_or l at 0) q) ≡ push_all (drop start (take (at + 1) l)) q
+  more q = sym (ap (λ s. push_all s q) part_more ∙ push_all_more (drop start (take at l)) (get_or l at 0) q)
 
 -- where the scan stands: what it passed, in front of the pieces of what is left
 abbrev pub Passed : List ℕ → ℕ → ℕ → ℕ → Type 0
-Passed l start end at = parts (drop start (take end l)) ≡ pushAll (drop start (take at l)) (parts (drop at (take end l)))
+Passed l start end at = parts (drop start (take end l)) ≡ push_all (drop start (take at l)) (parts (drop at (take end l)))
 
 module _ (l : List ℕ) (start end : ℕ) (m : end ≤ length l) where
   pub passed_none : Passed l start end start
-  passed_none = sym (ap (λ s. pushAll s (parts (drop start (take end l)))) (nothing l start start (omega arith)))
+  passed_none = sym (ap (λ s. push_all s (parts (drop start (take end l)))) (nothing l start start (omega arith)))
 
-  pub passed-all : (at : ℕ) → at ≡ end → Passed l start end at → Uncut l start end
-  passed-all at e p = record {
+  pub passed_all : (at : ℕ) → at ≡ end → Passed l start end at → Uncut l start end
+  passed_all at e p = record {
     pieces =
-        p ∙ ap (λ s. pushAll (drop start (take at l)) (parts s)) (nothing l at end (omega arith)) ∙ pushAll-first (λ x. true) (drop start (take at l)) []
+        p ∙ ap (λ s. push_all (drop start (take at l)) (parts s)) (nothing l at end (omega arith)) ∙ push_all_first (λ x. true) (drop start (take at l)) []
         ∙ ap (λ n. drop start (take n l) ∷ []) e;
   }
 
   module _ (at : ℕ) (h : start ≤ at) (p : Passed l start end at) where
     step : at < end → parts (drop at (take end l)) ≡ push (get_or l at 0) (parts (drop (at + 1) (take end l))) → Passed l start end (at + 1)
-    step k e = p ∙ ap (pushAll (drop start (take at l))) e ∙ more l start at h (omega arith) (parts (drop (at + 1) (take end l)))
+    step k e = p ∙ ap (push_all (drop start (take at l))) e ∙ more l start at h (omega arith) (parts (drop (at + 1) (take end l)))
 
-    pub passed-last : at < end → end - at < 2 → Uncut l start end
-    passed-last k n =
+    pub passed_last : at < end → end - at < 2 → Uncut l start end
+    passed_last k n =
         let e : at + 1 ≡ end = omega arith in
-        passed-all (at + 1) e
+        passed_all (at + 1) e
         (step k (ap parts (one l at end k n m) ∙ ap (λ s. push (get_or l at 0) (parts s)) (sym (nothing l (at + 1) end (omega arith)))))
 
-    pub passed-other : at < end → (get_or l at 0 ≡ dot → ⊥) → Passed l start end (at + 1)
-    passed-other k n =
-        step k (ap parts (uncons l at end k m) ∙ parts-off (get_or l at 0) (drop (at + 1) (take end l)) (ne_eqb (get_or l at 0) dot n))
+    pub passed_other : at < end → (get_or l at 0 ≡ dot → ⊥) → Passed l start end (at + 1)
+    passed_other k n =
+        step k (ap parts (uncons l at end k m) ∙ parts_off (get_or l at 0) (drop (at + 1) (take end l)) (ne_eqb (get_or l at 0) dot n))
 
-    pub passed-dot : at + 1 < end → (get_or l (at + 1) 0 ≡ dot → ⊥) → Passed l start end (at + 1)
-    passed-dot k n =
+    pub passed_dot : at + 1 < end → (get_or l (at + 1) 0 ≡ dot → ⊥) → Passed l start end (at + 1)
+    passed_dot k n =
         step (omega arith)
-        (ap parts (two l at end k m) ∙ parts-off₂ (get_or l at 0) (get_or l (at + 1) 0) (drop (at + 2) (take end l)) (ne_eqb (get_or l (at + 1) 0) dot n)
-        ∙ ap (λ s. push (get_or l at 0) (parts s)) (sym (uncons l (at + 1) end k m ∙ ap (λ i. get_or l (at + 1) 0 ∷ drop i (take end l)) (add-two at))))
+        (ap parts (two l at end k m) ∙ parts_off₂ (get_or l at 0) (get_or l (at + 1) 0) (drop (at + 2) (take end l)) (ne_eqb (get_or l (at + 1) 0) dot n)
+        ∙ ap (λ s. push (get_or l at 0) (parts s)) (sym (uncons l (at + 1) end k m ∙ ap (λ i. get_or l (at + 1) 0 ∷ drop i (take end l)) (add_two at))))
 
-    pub passed-found : at + 1 < end → get_or l at 0 ≡ dot → get_or l (at + 1) 0 ≡ dot → Cut l start end at
-    passed-found k e f = record {
+    pub passed_found : at + 1 < end → get_or l at 0 ≡ dot → get_or l (at + 1) 0 ≡ dot → Cut l start end at
+    passed_found k e f = record {
       from = h;
       within = omega arith;
       pieces =
-          p ∙ ap (λ s. pushAll (drop start (take at l)) (parts s)) (two l at end k m) ∙ ap (pushAll (drop start (take at l))) (rw (e, f))
-          ∙ pushAll-first (λ x. true) (drop start (take at l)) (parts (drop (at + 2) (take end l)));
+          p ∙ ap (λ s. push_all (drop start (take at l)) (parts s)) (two l at end k m) ∙ ap (push_all (drop start (take at l))) (rw (e, f))
+          ∙ push_all_first (λ x. true) (drop start (take at l)) (parts (drop (at + 2) (take end l)));
     }
 
 -- an answer of `find_dots`, by the case that it is

@@ -12,14 +12,14 @@ use Rattle.line.specs.declared.DotsAt.{DotsAt}
 use Rattle.line.specs.declared.DotsAt.TheVariants.{At, Nowhere}
 
 -- bytes of `..`
-abbrev pub dotsBytes : ℕ
-dotsBytes = 2
+abbrev pub dots_bytes : ℕ
+dots_bytes = 2
 
 -- `..` stands first at `at`: what is before it is the first piece, the others stand behind it
 pub record Cut (text : List ℕ) (start end at : ℕ) : Type 0 where
   pub from : start ≤ at
-  pub within : at + dotsBytes ≤ end
-  pub pieces : parts (drop start (take end text)) ≡ drop start (take at text) ∷ parts (drop (at + dotsBytes) (take end text))
+  pub within : at + dots_bytes ≤ end
+  pub pieces : parts (drop start (take end text)) ≡ drop start (take at text) ∷ parts (drop (at + dots_bytes) (take end text))
 
 -- `..` stands nowhere: the part is one piece
 pub record Uncut (text : List ℕ) (start end : ℕ) : Type 0 where
@@ -30,7 +30,7 @@ Dots text start end (At at) = Cut text start end at
 Dots text start end Nowhere = Uncut text start end
 
 -- the answer that two bounds give
-abbrev pub rangeAnswer : Bound → Bound → Part → LineAnswer
-rangeAnswer (NoBound n) upper names = Refused n
-rangeAnswer (Code l) (NoBound n) names = Refused n
-rangeAnswer (Code l) (Code u) names = Read (Range (record { lower = l; upper = u; names = names }))
+abbrev pub range_answer : Bound → Bound → Part → LineAnswer
+range_answer (NoBound n) upper names = Refused n
+range_answer (Code l) (NoBound n) names = Refused n
+range_answer (Code l) (Code u) names = Read (Range (record { lower = l; upper = u; names = names }))

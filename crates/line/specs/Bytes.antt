@@ -4,23 +4,23 @@
 use Rattle.std.specs.Prelude.{ℕ, true, false, cond, List, [], ◌∷◌, map}
 use Rattle.paper.specs.Text.Scalar.{utf8}
 use Rattle.paper.specs.CharDef.Line.{blank, category, range, begins0x}
-use Rattle.paper.specs.Computed.ReadText.{Found, found, wrong, range_of, categoryOf}
-use Rattle.scan.specs.Marks.{gapWidth, wordsBytes, bodyBytes}
+use Rattle.paper.specs.Computed.ReadText.{Found, found, wrong, range_of, category_of}
+use Rattle.scan.specs.Marks.{gap_width, words_bytes, body_bytes}
 
-unfoldable pub bodyLineBytes : List ℕ → Found
-unfolding range_of categoryOf wordsBytes gapWidth
-bodyLineBytes [] = found blank
-bodyLineBytes (c ∷ cs) =
-    cond (begins0x (c ∷ cs)) (range_of (wordsBytes (gapWidth true) (c ∷ cs))) (categoryOf (wordsBytes (gapWidth false) (c ∷ cs)))
+unfoldable pub body_line_bytes : List ℕ → Found
+unfolding range_of category_of words_bytes gap_width
+body_line_bytes [] = found blank
+body_line_bytes (c ∷ cs) =
+    cond (begins0x (c ∷ cs)) (range_of (words_bytes (gap_width true) (c ∷ cs))) (category_of (words_bytes (gap_width false) (c ∷ cs)))
 
 -- what a line's bytes say; names are bytes
-unfoldable pub lineBytes : List ℕ → Found
-unfolding bodyBytes bodyLineBytes
-lineBytes s = bodyLineBytes (bodyBytes s)
+unfoldable pub line_bytes : List ℕ → Found
+unfolding body_bytes body_line_bytes
+line_bytes s = body_line_bytes (body_bytes s)
 
 -- a line whose names are bytes, of one whose names are characters
-abbrev pub inBytes : Found → Found
-inBytes (wrong n) = wrong n
-inBytes (found blank) = found blank
-inBytes (found (category name invoke group len)) = found (category (utf8 name) invoke group len)
-inBytes (found (range lower upper names)) = found (range lower upper (map utf8 names))
+abbrev pub in_bytes : Found → Found
+in_bytes (wrong n) = wrong n
+in_bytes (found blank) = found blank
+in_bytes (found (category name invoke group len)) = found (category (utf8 name) invoke group len)
+in_bytes (found (range lower upper names)) = found (range lower upper (map utf8 names))

@@ -11,21 +11,21 @@ use Rattle.category_line.specs.declared.Line.{Line}
 use Rattle.category_line.specs.declared.Line.TheVariants.{Blank, Category, Range}
 use Rattle.category_line.specs.declared.LineAnswer.{LineAnswer}
 use Rattle.category_line.specs.declared.LineAnswer.TheVariants.{Read, Refused}
-use Rattle.scan.specs.Marks.{gapWidth, wordsBytes}
-use Rattle.scan.specs.Answer.{bytes_of, bodyPart}
+use Rattle.scan.specs.Marks.{gap_width, words_bytes}
+use Rattle.scan.specs.Answer.{bytes_of, body_part}
 use Rattle.category_line.specs.Answer.{Says}
-use Rattle.line.specs.Bytes.{lineBytes}
+use Rattle.line.specs.Bytes.{line_bytes}
 
 -- what `read_line` promises of the line from `start` to `end`
 abbrev pub Reads : List ℕ → ℕ → ℕ → LineAnswer → Type 0
-Reads text start end r = Says text (bodyPart text start end) (lineBytes (drop start (take end text))) r
+Reads text start end r = Says text (body_part text start end) (line_bytes (drop start (take end text))) r
 
 -- an answer stands for the paper's line: the bytes at its places spell the names, which in a range line are the words there
 pub data StandsFor (text : List ℕ) : Line → paper.Line → Type 0 where
-  a-blank : StandsFor text Blank paper.blank
-  a-category : {l : CategoryLine} {name : List ℕ} → bytes_of text l.name ≡ utf8 name
+  a_blank : StandsFor text Blank paper.blank
+  a_category : {l : CategoryLine} {name : List ℕ} → bytes_of text l.name ≡ utf8 name
       → StandsFor text (Category l) (paper.category name l.invoke l.group l.length)
-  a-range : {l : RangeLine} {names : List (List ℕ)} → wordsBytes (gapWidth true) (bytes_of text l.names) ≡ map utf8 names
+  a_range : {l : RangeLine} {names : List (List ℕ)} → words_bytes (gap_width true) (bytes_of text l.names) ≡ map utf8 names
       → StandsFor text (Range l) (paper.range l.lower l.upper names)
 
 -- the characters cs say the line that is answered; or they say none, and the number is why

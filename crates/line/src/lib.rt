@@ -4,12 +4,12 @@
 ghost use Rattle.std.specs.Prelude.{◌≡◌, true, take, drop};
 ghost use Rattle.paper.specs.CharDef.Line.{begins0x};
 ghost use Rattle.paper.specs.Computed.ReadText.{range_of};
-ghost use Rattle.scan.specs.Marks.{gapWidth, wordsBytes};
-ghost use Rattle.scan.specs.Answer.{part, bodyPart};
+ghost use Rattle.scan.specs.Marks.{gap_width, words_bytes};
+ghost use Rattle.scan.specs.Answer.{part, body_part};
 ghost use Rattle.scan.specs.Asked.{Inside};
 ghost use Rattle.category_line.specs.Answer.{Says};
-ghost use Rattle.line.specs.Bytes.{lineBytes};
-ghost use Rattle.line.specs.Asked.{Dots, rangeAnswer};
+ghost use Rattle.line.specs.Bytes.{line_bytes};
+ghost use Rattle.line.specs.Asked.{Dots, range_answer};
 
 use category_line::{Line, LineAnswer, RangeLine};
 use numeral::Bound;
@@ -68,7 +68,7 @@ fn begins_0x(text: &[u8], start: usize, end: usize) -> bool
 
 // A range line of two bounds, whose names stand in a part.
 fn range_of(lower: Bound, upper: Bound, names: Part) -> LineAnswer
-    ensures { result ≡ rangeAnswer lower upper names }
+    ensures { result ≡ range_answer lower upper names }
 {
     match lower {
         Bound::NoBound(n) => LineAnswer::Refused(n),
@@ -86,7 +86,7 @@ fn range_of(lower: Bound, upper: Bound, names: Part) -> LineAnswer
 // The body of a range line: its first word is the bounds, the others are names.
 fn parse_range(text: &[u8], start: usize, end: usize) -> LineAnswer
     requires { Inside text.now start end }
-    ensures { Says text.now (part start end) (range_of (wordsBytes (gapWidth true) (drop start (take end text.now)))) result }
+    ensures { Says text.now (part start end) (range_of (words_bytes (gap_width true) (drop start (take end text.now)))) result }
 {
     let w = scan::next_word(text, start, end, true);
     let first = w.start;
@@ -116,7 +116,7 @@ fn parse_range(text: &[u8], start: usize, end: usize) -> LineAnswer
 
 // What the line from `start` to `end` says, or the number of its refusal.
 pub fn read_line(text: &[u8], start: usize, end: usize) -> LineAnswer
-    ensures { Says text.now (bodyPart text.now start end) (lineBytes (drop start (take end text.now))) result }
+    ensures { Says text.now (body_part text.now start end) (line_bytes (drop start (take end text.now))) result }
 {
     let body = scan::body_of(text, start, end);
     let from = body.start;

@@ -2,27 +2,27 @@
 -- Assumes nothing.
 use Rattle.std.specs.Prelude.{ℕ, suc, ◌≡◌, cond, List, [], ◌∷◌, leb, length, drop}
 use Rattle.paper.specs.Lists.{cut}
-use Rattle.paper.specs.CharDef.Reading.{Reading, Answer, accepted, refused, isLF}
-use Rattle.paper.specs.Computed.ReadText.{afterLine, nothingRead}
+use Rattle.paper.specs.CharDef.Reading.{Reading, Answer, accepted, refused, is_lf}
+use Rattle.paper.specs.Computed.ReadText.{after_line, nothing_read}
 use Rattle.paper.specs.declared.Counts.{Counts}
-use Rattle.line.specs.Bytes.{lineBytes}
+use Rattle.line.specs.Bytes.{line_bytes}
 use Rattle.lines.specs.declared.Walk.{Walk}
 use Rattle.lines.specs.declared.Walk.TheVariants.{Ended, Stopped}
-use Rattle.entry.specs.Steps.{Memory, Held, enterFoundBytes}
+use Rattle.entry.specs.Steps.{Memory, Held, enter_found_bytes}
 
 -- lines as bytes, from line k, entered behind a reading
-unfoldable pub readBytes : ℕ → List (List ℕ) → Reading → Answer
-readBytes k [] r = accepted r
-readBytes k (s ∷ ss) r = afterLine k (enterFoundBytes r (lineBytes s)) (λ r'. readBytes (suc k) ss r')
+unfoldable pub read_bytes : ℕ → List (List ℕ) → Reading → Answer
+read_bytes k [] r = accepted r
+read_bytes k (s ∷ ss) r = after_line k (enter_found_bytes r (line_bytes s)) (λ r'. read_bytes (suc k) ss r')
 
 -- the answer to all lines of a text
 unfoldable pub read_all : List ℕ → Answer
-unfolding readBytes nothingRead
-read_all text = readBytes 1 (cut isLF text) nothingRead
+unfolding read_bytes nothing_read
+read_all text = read_bytes 1 (cut is_lf text) nothing_read
 
 -- the lines that are left from a place on: none past the end
 unfoldable pub lines_from : ℕ → List ℕ → List (List ℕ)
-lines_from at text = cond (leb at (length text)) (cut isLF (drop at text)) []
+lines_from at text = cond (leb at (length text)) (cut is_lf (drop at text)) []
 
 -- ---- the walk
 

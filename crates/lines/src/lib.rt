@@ -1,10 +1,10 @@
 // From line to line of a text: "Lines", where a line ends and which comes next. Each line is entered into memory that holds the reading so far;
 // the layers above write the category slots out and keep the room.
 ghost use Rattle.std.specs.Prelude.{◌≡◌, ◌+◌, ◌≤◌, length, drop};
-ghost use Rattle.paper.specs.Sizes.{maxTextBytes};
+ghost use Rattle.paper.specs.Sizes.{max_text_bytes};
 ghost use Rattle.paper.specs.Lists.{until};
-ghost use Rattle.paper.specs.CharDef.Reading.{isLF};
-ghost use Rattle.paper.specs.Computed.ReadText.{nothingRead};
+ghost use Rattle.paper.specs.CharDef.Reading.{is_lf};
+ghost use Rattle.paper.specs.Computed.ReadText.{nothing_read};
 ghost use Rattle.entry.specs.Steps.{Held};
 ghost use Rattle.lines.specs.Lines.{read_all, Walked};
 
@@ -21,7 +21,7 @@ pub enum Walk {
 
 // The end of the line that begins at `start`: its LF, or the end of the text.
 fn line_end(text: &[u8], start: usize) -> usize
-    ensures { result ≡ start + length (until isLF (drop start text.now)) }
+    ensures { result ≡ start + length (until is_lf (drop start text.now)) }
 {
     let mut at = start;
     while at < text.len() {
@@ -42,8 +42,8 @@ pub fn walk_lines(
     ranges: &mut [u8],
     references: &mut [u8],
 ) -> Walk
-    requires text_len_bound { length text.now ≤ maxTextBytes }
-    requires held { Held nothingRead (record { store = names.old; slots = slots.old; definitions = definitions.old; ranges = ranges.old; references = references.old }) (record { categories = 0; definitions = 0; ranges = 0; references = 0; bytes = 0 }) }
+    requires text_len_bound { length text.now ≤ max_text_bytes }
+    requires held { Held nothing_read (record { store = names.old; slots = slots.old; definitions = definitions.old; ranges = ranges.old; references = references.old }) (record { categories = 0; definitions = 0; ranges = 0; references = 0; bytes = 0 }) }
     ensures { Walked (read_all text.now) (record { store = names.new; slots = slots.new; definitions = definitions.new; ranges = ranges.new; references = references.new }) result }
 {
     let mut counts = Counts {

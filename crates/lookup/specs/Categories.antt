@@ -2,19 +2,19 @@
 -- where the lookup refuses".
 -- Assumes nothing.
 use Rattle.std.specs.Prelude.{ℕ, ◌≡◌, List, [], take, drop}
-use Rattle.paper.specs.Rows.Lookup.{Looked, gives, refuses, LookupTables, Pool, ofFlat, ofRows, Part, content, Looks}
+use Rattle.paper.specs.Rows.Lookup.{Looked, gives, refuses, LookupTables, Pool, of_flat, of_rows, Part, content, Looks}
 use Rattle.packed.specs.declared.Span.{Span}
 use Rattle.lookup.specs.declared.Located.{Located}
 use Rattle.lookup.specs.declared.Located.TheVariants.{InFlat, InRows, Refused}
 
 -- ---- where the categories of a code point stand
 
-abbrev pub inPool : Pool → Span → Located
-inPool ofFlat s = InFlat s
-inPool ofRows s = InRows s
+abbrev pub in_pool : Pool → Span → Located
+in_pool of_flat s = InFlat s
+in_pool of_rows s = InRows s
 
 abbrev pub located : Looked Part → Located
-located (gives p) = inPool p.from (record { start = p.start; len = p.len })
+located (gives p) = in_pool p.from (record { start = p.start; len = p.len })
 located (refuses n) = Refused (record { number = n; place = 0 })
 
 pub record Locates (t : LookupTables) (c : ℕ) (r : Located) : Type 0 where

@@ -1,9 +1,9 @@
 // The lookup of a code point's categories over any lent tables, by the flat table or by rows. No table is believed: what would lie outside of one is
 // 26.
 ghost use Rattle.std.specs.Prelude.{◌≡◌, ◌<◌, length, get_or};
-ghost use Rattle.paper.specs.Rows.Lookup.{fromZero};
+ghost use Rattle.paper.specs.Rows.Lookup.{from_zero};
 ghost use Rattle.lookup.specs.Categories.{located, Locates, PartIs};
-ghost use Rattle.lookup.specs.Ways.{byFlat, ofRow, ByRows};
+ghost use Rattle.lookup.specs.Ways.{by_flat, of_row, ByRows};
 
 use packed::{OFFSET_UNIT, Span};
 use paper::{BMP_SIZE, NOT_SCALAR, Refusal, TABLES_APART};
@@ -17,7 +17,7 @@ pub enum Located {
 
 // "The boundary list it uses is empty or doesn't begin at 0" is false.
 fn begins_at_zero(boundaries: &[u32]) -> bool
-    ensures { result ≡ fromZero boundaries.now }
+    ensures { result ≡ from_zero boundaries.now }
 {
     if boundaries.len() == 0 {
         return false;
@@ -31,7 +31,7 @@ fn begins_at_zero(boundaries: &[u32]) -> bool
 // By the flat table: the part that the entry of a code point names.
 fn in_flat(flat_index: &[u32], places: usize, at: usize) -> Located
     requires { at < length flat_index.now }
-    ensures { result ≡ located (byFlat (get_or flat_index.now at 0) places) }
+    ensures { result ≡ located (by_flat (get_or flat_index.now at 0) places) }
 {
     let entry = flat_index[at];
     let start = (entry / OFFSET_UNIT) as usize;
@@ -47,7 +47,7 @@ fn in_flat(flat_index: &[u32], places: usize, at: usize) -> Located
 
 // The part of row number `row`.
 fn of_row(row_starts: &[u32], row_lengths: &[u16], places: usize, row: usize) -> Located
-    ensures { result ≡ located (ofRow row_starts.now row_lengths.now places row) }
+    ensures { result ≡ located (of_row row_starts.now row_lengths.now places row) }
 {
     if row_starts.len() <= row {
         return Located::Refused(Refusal {

@@ -11,10 +11,10 @@ abbrev pub factor : ℕ
 factor = 16777619
 
 -- the mark of bytes behind others of the mark h
-unfoldable pub markAfter : ℕ → List ℕ → ℕ
-markAfter h [] = h
-markAfter h (b ∷ bs) = markAfter ((h * factor + b) % marks) bs
+unfoldable pub mark_after : ℕ → List ℕ → ℕ
+mark_after h [] = h
+mark_after h (b ∷ bs) = mark_after ((h * factor + b) % marks) bs
 
 unfoldable pub mark : List ℕ → ℕ
-unfolding markAfter
-mark bs = markAfter 0 bs
+unfolding mark_after
+mark bs = mark_after 0 bs

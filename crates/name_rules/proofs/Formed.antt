@@ -13,12 +13,12 @@ use mir.Facts.{yes_eqb, eqb_yes}
 use Rattle.paper.specs.Lists.{all}
 use Rattle.paper.specs.Text.Scalar.{WellFormed, LongestPrefix}
 use Rattle.paper.specs.Computed.Rules.{formed}
-use Rattle.paper.specs.Tables.Layout.{nameSlotOf, pieces}
+use Rattle.paper.specs.Tables.Layout.{name_slot_of, pieces}
 use Rattle.paper.proofs.Lists.Facts.{T→true}
-use Rattle.paper.proofs.Pack.Rules.{formed-is, is-formed}
+use Rattle.paper.proofs.Pack.Rules.{formed_is, is_formed}
 use Rattle.paper.proofs.Tables.Laws.{left}
-use Rattle.name_rules.specs.Placed.{placed, name_of, placedNames}
-use Rattle.table_rules.proofs.Entries.{all-begin, all-fails, all-goes, all_map}
+use Rattle.name_rules.specs.Placed.{placed, name_of, placed_names}
+use Rattle.table_rules.proofs.Entries.{all_begin, all_fails, all_goes, all_map}
 use Rattle.table_rules.proofs.Tests.{passed, clash}
 
 -- ---- one name
@@ -28,33 +28,33 @@ same_truth true b f g = sym (T→true b (f tt))
 same_truth false true f g = absurd (g tt)
 same_truth false false f g = refl
 
-pub whole-prefix : (r : ℕ) (s : List ℕ) → LongestPrefix r s → eqb r (length s) ≡ formed s
-whole-prefix r s p =
+pub whole_prefix : (r : ℕ) (s : List ℕ) → LongestPrefix r s → eqb r (length s) ≡ formed s
+whole_prefix r s p =
     same_truth (eqb r (length s)) (formed s)
-    (λ t. is-formed s (subst WellFormed (let e : r ≡ length s = eqb_yes t in ap (λ k. take k s) e ∙ take-length s) p.fits))
-    (λ t. yes_eqb (le_antisymm p.inside (p.longest (length s) (le_refl (length s)) (subst WellFormed (sym (take-length s)) (formed-is s t)))))
+    (λ t. is_formed s (subst WellFormed (let e : r ≡ length s = eqb_yes t in ap (λ k. take k s) e ∙ take-length s) p.fits))
+    (λ t. yes_eqb (le_antisymm p.inside (p.longest (length s) (le_refl (length s)) (subst WellFormed (sym (take-length s)) (formed_is s t)))))
 
 -- ---- all names
 
-abbrev pub formedAt : List ℕ → List ℕ → Bool
-formedAt names p = formed (placed names (nameSlotOf p))
+abbrev pub formed_at : List ℕ → List ℕ → Bool
+formed_at names p = formed (placed names (name_slot_of p))
 
-pub formed-begin : (names l : List ℕ) (n : ℕ) → all (formedAt names) (left 4 n 0 l) ≡ all formed (placedNames n l names)
-unfolding placedNames
-formed-begin names l n =
-    all-begin 4 (formedAt names) l n
-    ∙ all_map (λ q. formed (placed names q)) nameSlotOf (pieces 4 n l)
-    ∙ all_map formed (placed names) (map nameSlotOf (pieces 4 n l))
+pub formed_begin : (names l : List ℕ) (n : ℕ) → all (formed_at names) (left 4 n 0 l) ≡ all formed (placed_names n l names)
+unfolding placed_names
+formed_begin names l n =
+    all_begin 4 (formed_at names) l n
+    ∙ all_map (λ q. formed (placed names q)) name_slot_of (pieces 4 n l)
+    ∙ all_map formed (placed names) (map name_slot_of (pieces 4 n l))
 
-module _ (names l : List ℕ) (n i : ℕ) (v b : Bool) (s : List ℕ) (inv : all (formedAt names) (left 4 n i l) ≡ v)
+module _ (names l : List ℕ) (n i : ℕ) (v b : Bool) (s : List ℕ) (inv : all (formed_at names) (left 4 n i l) ≡ v)
     (e : b ≡ formed s) (d : s ≡ name_of i l names) where
   answer : b ≡ formed (name_of i l names)
   answer = e ∙ ap formed d
 
-  pub formed-fails : i < n → not b ≡ true → false ≡ v
+  pub formed_fails : i < n → not b ≡ true → false ≡ v
   unfolding name_of
-  formed-fails lt h = all-fails 4 (formedAt names) l n i v inv lt (clash b _ answer h)
+  formed_fails lt h = all_fails 4 (formed_at names) l n i v inv lt (clash b _ answer h)
 
-  pub formed-goes : i < n → not b ≡ false → all (formedAt names) (left 4 n (i + 1) l) ≡ v
+  pub formed_goes : i < n → not b ≡ false → all (formed_at names) (left 4 n (i + 1) l) ≡ v
   unfolding name_of
-  formed-goes lt h = all-goes 4 (formedAt names) l n i v inv lt (passed b _ answer h)
+  formed_goes lt h = all_goes 4 (formed_at names) l n i v inv lt (passed b _ answer h)

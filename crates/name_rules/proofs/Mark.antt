@@ -9,7 +9,7 @@ use mathlib.Core.List.{List}
 use lib.ListN.{length, get_or, set}
 use lib.Seq.{get_or-set_same, get_or-set_other}
 use Rattle.paper.specs.Lists.{same}
-use Rattle.paper.proofs.Lists.Seen.{same-eq}
+use Rattle.paper.proofs.Lists.Seen.{same_eq}
 use Rattle.name_rules.specs.Placed.{name_of}
 use Rattle.mark.specs.Mark.{mark}
 use Rattle.name_rules.specs.Marked.{Marked}
@@ -27,5 +27,5 @@ marked_more n categories names l m lt before e i h =
 
 -- ---- a filter
 
-pub marks-apart : (s t : List ℕ) → (mark t ≡ mark s → ⊥) → same s t ≡ false
-marks-apart s t f = untrue (same s t) (λ h. f (ap mark (sym (same-eq s t h))))
+pub marks_apart : (s t : List ℕ) → (mark t ≡ mark s → ⊥) → same s t ≡ false
+marks_apart s t f = untrue (same s t) (λ h. f (ap mark (sym (same_eq s t h))))

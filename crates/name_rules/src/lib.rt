@@ -4,7 +4,7 @@ ghost use Rattle.std.specs.Prelude.{◌≡◌, not, ◌+◌, ◌*◌, ◌≤◌,
 ghost use Rattle.paper.specs.Lists.{all, any, same};
 ghost use Rattle.paper.specs.Computed.Rules.{formed};
 ghost use Rattle.paper.specs.Pack.Rules.{once};
-ghost use Rattle.name_rules.specs.Placed.{name_of, placedNames};
+ghost use Rattle.name_rules.specs.Placed.{name_of, placed_names};
 ghost use Rattle.name_rules.specs.Marked.{Marked};
 
 use paper::MAX_CATEGORIES;
@@ -34,7 +34,7 @@ pub fn is_formed(name: &[u8]) -> bool
 // Every name is well-formed.
 pub fn names_formed<'a>(names: &'a [u8], categories: &'a [u8], n: usize) -> bool
     requires { 4 * n ≤ length categories.now }
-    ensures { result ≡ all formed (placedNames n categories.now names.now) }
+    ensures { result ≡ all formed (placed_names n categories.now names.now) }
 {
     let mut i = 0;
     while i < n {
@@ -79,7 +79,7 @@ fn mark_names<'a>(names: &'a [u8], categories: &'a [u8], n: usize, marks: &mut [
 pub fn is_new<'a>(names: &'a [u8], categories: &'a [u8], marks: &'a [u32], i: usize) -> bool
     requires i_in_bounds { (4 * i + 4 ≤ length categories.now) × (i < length marks.now) }
     requires marked { Marked (i + 1) categories.now names.now marks.now }
-    ensures { result ≡ not (any (same (name_of i categories.now names.now)) (placedNames i categories.now names.now)) }
+    ensures { result ≡ not (any (same (name_of i categories.now names.now)) (placed_names i categories.now names.now)) }
 {
     let name = name_at(names, categories, i);
     let own = marks[i];
@@ -101,7 +101,7 @@ pub fn is_new<'a>(names: &'a [u8], categories: &'a [u8], marks: &'a [u32], i: us
 // their bytes.
 pub fn names_once<'a>(names: &'a [u8], categories: &'a [u8], n: usize) -> bool
     requires { (4 * n ≤ length categories.now) × (n ≤ 512) }
-    ensures { result ≡ once (placedNames n categories.now names.now) }
+    ensures { result ≡ once (placed_names n categories.now names.now) }
 {
     let mut marks = [0u32; MAX_CATEGORIES];
     mark_names(names, categories, n, &mut marks);

@@ -1,9 +1,9 @@
 // What a category's number says over any lent tables, its name and its definition; and the number of a name. No table is believed: what would lie
 // outside of one is 26.
 ghost use Rattle.std.specs.Prelude.{◌≡◌};
-ghost use Rattle.paper.specs.Rows.Numbers.{lookupDefinition, categoryName};
+ghost use Rattle.paper.specs.Rows.Numbers.{lookup_definition, category_name};
 ghost use Rattle.by_name.specs.Lookup.{FindsCategory};
-ghost use Rattle.numbered.specs.Numbers.{definition, name, nameHeld};
+ghost use Rattle.numbered.specs.Numbers.{definition, name, name_held};
 
 use by_name::CategoryFound;
 use packed::Span;
@@ -31,7 +31,7 @@ pub enum NameFound {
 
 // Definition number `id`: 15 where there are no more than `id`, 26 where it runs past the table.
 pub fn lookup_definition(definitions: &[u8], count: usize, id: usize) -> DefinitionFound
-    ensures { result ≡ definition (lookupDefinition definitions.now count id) }
+    ensures { result ≡ definition (lookup_definition definitions.now count id) }
 {
     if count <= id {
         return DefinitionFound::Refused(Refusal {
@@ -57,7 +57,7 @@ pub fn lookup_definition(definitions: &[u8], count: usize, id: usize) -> Definit
 
 // Where the name of category `id` stands in the store: 15 where there are no more than `id`, 26 where its slot or the name runs past.
 pub fn locate_name(names: &[u8], categories: &[u8], count: usize, id: usize) -> NameFound
-    ensures { result ≡ name (categoryName names.now categories.now count id) }
+    ensures { result ≡ name (category_name names.now categories.now count id) }
 {
     if count <= id {
         return NameFound::Refused(Refusal {
@@ -85,7 +85,7 @@ pub fn locate_name(names: &[u8], categories: &[u8], count: usize, id: usize) -> 
 
 // The name of category `id`, a part of the store; empty where `locate_name` refuses.
 pub fn category_name<'a>(names: &'a [u8], categories: &[u8], count: usize, id: usize) -> &'a [u8]
-    ensures { result.now ≡ nameHeld names.now (categoryName names.now categories.now count id) }
+    ensures { result.now ≡ name_held names.now (category_name names.now categories.now count id) }
 {
     match locate_name(names, categories, count, id) {
         NameFound::At(s) => {

@@ -1,7 +1,7 @@
 -- What the functions inside this crate ask and promise of places and of the base.
 -- Assumes nothing.
 use Rattle.std.specs.Prelude.{ℕ, ◌≤◌, ◌≡◌, List, length}
-use Rattle.paper.specs.Sizes.{maxU32}
+use Rattle.paper.specs.Sizes.{max_u32}
 
 -- r is the lesser of a and b
 pub record Least (a b r : ℕ) : Type 0 where
@@ -13,6 +13,6 @@ pub record Least (a b r : ℕ) : Type 0 where
 -- the part ends in the text; a base up to 16; a limit that a u32 holds
 pub record DigitsIn (text : List ℕ) (end base limit : ℕ) : Type 0 where
   pub inside : end ≤ length text
-  pub some-base : 1 ≤ base
-  pub small-base : base ≤ 16
-  pub small-limit : limit ≤ maxU32
+  pub some_base : 1 ≤ base
+  pub small_base : base ≤ 16
+  pub small_limit : limit ≤ max_u32

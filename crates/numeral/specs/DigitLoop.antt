@@ -1,22 +1,22 @@
 -- The digit loop as a program runs it, stopping at what is no digit and where the value passes the limit; and digits taken whole,
--- as the paper's `spelledBy` takes them. `Digits.loop-says` proves that the two are one.
+-- as the paper's `spelled_by` takes them. `Digits.loop_says` proves that the two are one.
 -- Assumes nothing.
 use Rattle.std.specs.Prelude.{ℕ, ◌+◌, ◌*◌, cond, ◌&&◌, List, [], ◌∷◌, leb}
 use Rattle.std.proofs.Math.Option.{Option, none, some}
 use Rattle.paper.specs.Lists.{all}
-use Rattle.paper.specs.Numbers.Numeral.{digitOf, isDigit, valueAfter}
+use Rattle.paper.specs.Numbers.Numeral.{digit_of, is_digit, value_after}
 
 -- digit by digit, after the value `high`
-unfoldable pub digitLoop : ℕ → ℕ → ℕ → List ℕ → Option ℕ
-unfolding isDigit
-digitLoop base limit high [] = some high
-digitLoop base limit high (d ∷ ds) =
-    let r = digitLoop base limit (high * base + digitOf d) ds in
-    cond (isDigit base d && leb (high * base + digitOf d) limit) r none
+unfoldable pub digit_loop : ℕ → ℕ → ℕ → List ℕ → Option ℕ
+unfolding is_digit
+digit_loop base limit high [] = some high
+digit_loop base limit high (d ∷ ds) =
+    let r = digit_loop base limit (high * base + digit_of d) ds in
+    cond (is_digit base d && leb (high * base + digit_of d) limit) r none
 
 -- all at once, after the value `high`
-unfoldable pub digitsAfter : ℕ → ℕ → ℕ → List ℕ → Option ℕ
-unfolding isDigit valueAfter
-digitsAfter base limit high ds =
-    let n = valueAfter base high ds in
-    cond (all (isDigit base) ds && leb n limit) (some n) none
+unfoldable pub digits_after : ℕ → ℕ → ℕ → List ℕ → Option ℕ
+unfolding is_digit value_after
+digits_after base limit high ds =
+    let n = value_after base high ds in
+    cond (all (is_digit base) ds && leb n limit) (some n) none

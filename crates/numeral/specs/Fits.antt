@@ -1,7 +1,7 @@
 -- The four promises by the paper's relations: which answer fits which characters.
 -- Assumes nothing.
 use Rattle.std.specs.Prelude.{ℕ, ◌≡◌, ◌≢◌, ◌⊎◌, List}
-use Rattle.paper.specs.Refusals.{boundUnreadable, boundMark}
+use Rattle.paper.specs.Refusals.{bound_unreadable, bound_mark}
 use Rattle.paper.specs.Numbers.Numeral.{Numeral, Integer, pos, neg, SignedNumeral}
 use Rattle.paper.specs.CharDef.Line.{stands_for}
 use Rattle.paper.specs.CharDef.Line as line
@@ -29,12 +29,12 @@ Marked code = (code ≡ 0xFEFF) ⊎ (code ≡ 0xFFFE)
 -- the character that a code stands for, or the refusal of a mark
 abbrev pub CodeFits : ℕ → Bound → Type 0
 CodeFits code (bound.Code b) = (code ≢ 0xFEFF) × (code ≢ 0xFFFE) × (b ≡ stands_for code)
-CodeFits code (bound.NoBound k) = Marked code × (k ≡ boundMark)
+CodeFits code (bound.NoBound k) = Marked code × (k ≡ bound_mark)
 
 -- why characters are no bound: they are no 16-bit hex number, or one of the two marks
 pub data NoBoundBy (cs : List ℕ) (k : ℕ) : Type 0 where
-  unreadable : ((code : ℕ) → Hex16 cs code → ⊥) → k ≡ boundUnreadable → NoBoundBy cs k
-  mark : (code : ℕ) → Hex16 cs code → Marked code → k ≡ boundMark → NoBoundBy cs k
+  unreadable : ((code : ℕ) → Hex16 cs code → ⊥) → k ≡ bound_unreadable → NoBoundBy cs k
+  mark : (code : ℕ) → Hex16 cs code → Marked code → k ≡ bound_mark → NoBoundBy cs k
 
 -- the bound that the characters say, `0x` in front or not; or why there is none
 abbrev pub BoundFits : List ℕ → Bound → Type 0

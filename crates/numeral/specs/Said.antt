@@ -3,7 +3,7 @@
 use Rattle.std.specs.Prelude.{ℕ}
 use Rattle.std.proofs.Math.Option.{Option, none, some}
 use Rattle.paper.specs.Numbers.Numeral.{Integer, pos, neg}
-use Rattle.paper.specs.Computed.ReadText.{BoundFound, boundIs, noBound}
+use Rattle.paper.specs.Computed.ReadText.{BoundFound, bound_is, no_bound}
 use Rattle.numeral.specs.declared.Number.{Number}
 use Rattle.numeral.specs.declared.Number.TheVariants as number
 use Rattle.numeral.specs.declared.Signed.{Signed}
@@ -11,15 +11,15 @@ use Rattle.numeral.specs.declared.Signed.TheVariants as signed
 use Rattle.numeral.specs.declared.Bound.{Bound}
 use Rattle.numeral.specs.declared.Bound.TheVariants as bound
 
-abbrev pub saidNumber : Number → Option ℕ
-saidNumber (number.Value n) = some n
-saidNumber number.Bad = none
+abbrev pub said_number : Number → Option ℕ
+said_number (number.Value n) = some n
+said_number number.Bad = none
 
-abbrev pub saidSigned : Signed → Option Integer
-saidSigned (signed.Plus n) = some (pos n)
-saidSigned (signed.Minus n) = some (neg n)
-saidSigned signed.Bad = none
+abbrev pub said_signed : Signed → Option Integer
+said_signed (signed.Plus n) = some (pos n)
+said_signed (signed.Minus n) = some (neg n)
+said_signed signed.Bad = none
 
-abbrev pub saidBound : Bound → BoundFound
-saidBound (bound.Code n) = boundIs n
-saidBound (bound.NoBound k) = noBound k
+abbrev pub said_bound : Bound → BoundFound
+said_bound (bound.Code n) = bound_is n
+said_bound (bound.NoBound k) = no_bound k

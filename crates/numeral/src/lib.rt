@@ -2,11 +2,11 @@
 // a text; a part that reaches past the text is cut at its end, and one that starts behind its end is empty.
 ghost use Rattle.std.specs.Prelude.{◌≡◌, ◌+◌, ◌≤◌, ◌<◌, length, take, drop};
 ghost use Rattle.std.proofs.Math.Option.{some};
-ghost use Rattle.paper.specs.Sizes.{maxU32, maxI32, lowI32};
-ghost use Rattle.paper.specs.Numbers.Numeral.{digitOf};
-ghost use Rattle.paper.specs.Computed.Numeral.{spelledBy, numeral, signedNumeral};
-ghost use Rattle.paper.specs.Computed.ReadText.{strip0x, checkedBound, boundOf};
-ghost use Rattle.numeral.specs.Said.{saidNumber, saidSigned, saidBound};
+ghost use Rattle.paper.specs.Sizes.{max_u32, max_i32, low_i32};
+ghost use Rattle.paper.specs.Numbers.Numeral.{digit_of};
+ghost use Rattle.paper.specs.Computed.Numeral.{spelled_by, numeral, signed_numeral};
+ghost use Rattle.paper.specs.Computed.ReadText.{strip0x, checked_bound, bound_of};
+ghost use Rattle.numeral.specs.Said.{said_number, said_signed, said_bound};
 ghost use Rattle.numeral.specs.Asked.{Least, DigitsIn};
 
 use paper::{BOUND_MARK, BOUND_UNREADABLE};
@@ -72,7 +72,7 @@ fn wide(b: u8) -> u64
 
 // The value of a digit of either case.
 fn digit_of(b: u8) -> u64
-    ensures { result ≡ digitOf b }
+    ensures { result ≡ digit_of b }
 {
     match b {
         b'0'..=b'9' => wide(b - b'0'),
@@ -91,7 +91,7 @@ fn least(a: usize, b: usize) -> usize
 // One or more digits, read to the last one, of a value up to the limit.
 fn parse_digits(text: &[u8], start: usize, end: usize, base: u64, limit: u64) -> Number
     requires { DigitsIn text.now end base limit }
-    ensures { saidNumber result ≡ spelledBy base limit (drop start (take end text.now)) }
+    ensures { said_number result ≡ spelled_by base limit (drop start (take end text.now)) }
 {
     if end <= start {
         return Number::Bad;
@@ -116,7 +116,7 @@ fn parse_digits(text: &[u8], start: usize, end: usize, base: u64, limit: u64) ->
 // An optional `+`, and digits.
 fn parse_number(text: &[u8], start: usize, end: usize, base: u64, limit: u64) -> Number
     requires { DigitsIn text.now end base limit }
-    ensures { saidNumber result ≡ numeral base limit (drop start (take end text.now)) }
+    ensures { said_number result ≡ numeral base limit (drop start (take end text.now)) }
 {
     if start < end && text[start] == b'+' {
         return parse_digits(text, start + 1, end, base, limit);
@@ -125,14 +125,14 @@ fn parse_number(text: &[u8], start: usize, end: usize, base: u64, limit: u64) ->
 }
 
 pub fn parse_u32(text: &[u8], start: usize, end: usize) -> Number
-    ensures { saidNumber result ≡ numeral 10 maxU32 (drop start (take end text.now)) }
+    ensures { said_number result ≡ numeral 10 max_u32 (drop start (take end text.now)) }
 {
     parse_number(text, start, least(end, text.len()), DECIMAL, MAX_U32)
 }
 
 // `-` and digits, or what is no negative number.
 pub fn parse_i32(text: &[u8], start: usize, end: usize) -> Signed
-    ensures { saidSigned result ≡ signedNumeral 10 maxI32 lowI32 (drop start (take end text.now)) }
+    ensures { said_signed result ≡ signed_numeral 10 max_i32 low_i32 (drop start (take end text.now)) }
 {
     let stop = least(end, text.len());
     if stop <= start {
@@ -173,7 +173,7 @@ fn past_0x(text: &[u8], start: usize, end: usize) -> usize
 
 // The character that a 16-bit code stands for in UTF-16, where it stands alone.
 pub fn ucs2_to_unicode(code: u16) -> Bound
-    ensures { saidBound result ≡ checkedBound (some code) }
+    ensures { said_bound result ≡ checked_bound (some code) }
 {
     if code == MARK {
         return Bound::NoBound(BOUND_MARK);
@@ -191,7 +191,7 @@ pub fn ucs2_to_unicode(code: u16) -> Bound
 }
 
 pub fn parse_hex_codepoint(text: &[u8], start: usize, end: usize) -> Bound
-    ensures { saidBound result ≡ boundOf (drop start (take end text.now)) }
+    ensures { said_bound result ≡ bound_of (drop start (take end text.now)) }
 {
     let stop = least(end, text.len());
     let at = past_0x(text, start, stop);

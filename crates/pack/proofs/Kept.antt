@@ -5,6 +5,6 @@ use mathlib.Core.Path.{◌≡◌, sym, ap, ◌∙◌}
 use mathlib.Core.List.{List, ◌++◌}
 use lib.ListN.{length, take, drop, length-append, take-append-drop}
 
-pub part-kept : (n : ℕ) (l part : List ℕ) → length part ≡ length (take n l) → length (part ++ drop n l) ≡ length l
-part-kept n l part e =
+pub part_kept : (n : ℕ) (l part : List ℕ) → length part ≡ length (take n l) → length (part ++ drop n l) ≡ length l
+part_kept n l part e =
     length-append part (drop n l) ∙ ap (λ k. k + length (drop n l)) e ∙ sym (length-append (take n l) (drop n l)) ∙ ap length (take-append-drop n l)

@@ -1,10 +1,10 @@
 // The pack's reader: the head, the body that it announces, and the padding, which its parts read; what they leave is the reading's tables, and zero
 // where the pack is refused.
 ghost use Rattle.std.specs.Prelude.{◌≡◌};
-ghost use Rattle.paper.specs.Computed.ReadPack.{readPack};
-ghost use Rattle.paper.specs.Tables.Layout.{inRoom};
+ghost use Rattle.paper.specs.Computed.ReadPack.{read_pack};
+ghost use Rattle.paper.specs.Tables.Layout.{in_room};
 ghost use Rattle.paper.specs.Tables.Reader.{Reads};
-ghost use Rattle.room.specs.Sized.{Sized, noTables, ReadInto};
+ghost use Rattle.room.specs.Sized.{Sized, no_tables, ReadInto};
 ghost use Rattle.pack.specs.Whole.{Fill};
 
 use field::BitCursor;
@@ -24,8 +24,8 @@ fn fill_tables(
     ranges: &mut [u8],
     references: &mut [u8],
 ) -> Outcome
-    requires { record { names = names.now; categories = categories.old; definitions = definitions.old; ranges = ranges.old; references = references.old } ≡ inRoom noTables }
-    ensures { Fill (readPack pack.now) (record { names = names.exit.now; categories = categories.new; definitions = definitions.new; ranges = ranges.new; references = references.new }) result }
+    requires { record { names = names.now; categories = categories.old; definitions = definitions.old; ranges = ranges.old; references = references.old } ≡ in_room no_tables }
+    ensures { Fill (read_pack pack.now) (record { names = names.exit.now; categories = categories.new; definitions = definitions.new; ranges = ranges.new; references = references.new }) result }
 {
     match read_head(pack, BitCursor { at: 0 }) {
         HeadRead::Refused(r) => Outcome::Refused(r),
@@ -71,7 +71,7 @@ fn read_into(
     references: &mut [u8],
 ) -> Outcome
     requires { Sized (record { names = names.now; categories = categories.old; definitions = definitions.old; ranges = ranges.old; references = references.old }) }
-    ensures { ReadInto (readPack pack.now) (record { names = names.exit.now; categories = categories.new; definitions = definitions.new; ranges = ranges.new; references = references.new }) result }
+    ensures { ReadInto (read_pack pack.now) (record { names = names.exit.now; categories = categories.new; definitions = definitions.new; ranges = ranges.new; references = references.new }) result }
 {
     room::zero_all(names, categories, definitions, ranges, references);
     match fill_tables(pack, names, categories, definitions, ranges, references) {
@@ -93,7 +93,7 @@ pub fn read_pack(
     ranges: &mut [u8],
     references: &mut [u8],
 ) -> Outcome
-    ensures { Reads (readPack pack.now) (record { names = names.entry.now; categories = categories.old; definitions = definitions.old; ranges = ranges.old; references = references.old }) (record { names = names.exit.now; categories = categories.new; definitions = definitions.new; ranges = ranges.new; references = references.new }) result }
+    ensures { Reads (read_pack pack.now) (record { names = names.entry.now; categories = categories.old; definitions = definitions.old; ranges = ranges.old; references = references.old }) (record { names = names.exit.now; categories = categories.new; definitions = definitions.new; ranges = ranges.new; references = references.new }) result }
 {
     if !room::has_room(
         names.len(),

@@ -2,8 +2,8 @@
 -- Assumes nothing.
 use Rattle.std.specs.Prelude.{ℕ, ◌+◌, ◌≡◌, List}
 use Rattle.paper.specs.CharDef.Reading as reading
-use Rattle.paper.specs.Pack.Fields.{definitionWidth}
-use Rattle.paper.specs.Computed.ReadPack.{gave, broke, readDefinition}
+use Rattle.paper.specs.Pack.Fields.{definition_width}
+use Rattle.paper.specs.Computed.ReadPack.{gave, broke, read_definition}
 use Rattle.field.specs.Cursor.{rest}
 use Rattle.pack_body.specs.declared.Definition.{Definition}
 use Rattle.pack_body.specs.declared.DefinitionRead.{DefinitionRead}
@@ -13,9 +13,9 @@ abbrev pub meant : Definition → reading.Definition
 meant d = record { invoke = d.invoke; group = d.group; len = d.length }
 
 pub record DefinitionIn (p : List ℕ) (at : ℕ) (d : Definition) (next : ℕ) : Type 0 where
-  pub on : next ≡ at + definitionWidth
-  pub reads : readDefinition at (rest p at) ≡ gave (meant d) next (rest p next)
+  pub on : next ≡ at + definition_width
+  pub reads : read_definition at (rest p at) ≡ gave (meant d) next (rest p next)
 
 abbrev pub DefinitionIs : List ℕ → ℕ → DefinitionRead → Type 0
 DefinitionIs p at (definition.Read d c) = DefinitionIn p at d c.at
-DefinitionIs p at (definition.Refused r) = readDefinition at (rest p at) ≡ broke r.number r.place
+DefinitionIs p at (definition.Refused r) = read_definition at (rest p at) ≡ broke r.number r.place

@@ -1,15 +1,15 @@
 // The body of a pack behind its head: names, definitions and ranges, one after another into their tables. Each field is judged before anything is
 // done with it: a count of the head only says how often a loop may go round, and nothing is sized by it.
 ghost use Rattle.std.specs.Prelude.{◌≡◌, ◌+◌, ◌*◌, ◌≤◌, [], length};
-ghost use Rattle.paper.specs.Sizes.{maxCategoryLines};
-ghost use Rattle.paper.specs.Pack.Fields.{flag, definitionWidth};
-ghost use Rattle.paper.specs.Computed.ReadPack.{many, readDefinition};
-ghost use Rattle.paper.specs.Tables.Layout.{inRoom, definitionBytes, definitionSize};
+ghost use Rattle.paper.specs.Sizes.{max_category_lines};
+ghost use Rattle.paper.specs.Pack.Fields.{flag, definition_width};
+ghost use Rattle.paper.specs.Computed.ReadPack.{many, read_definition};
+ghost use Rattle.paper.specs.Tables.Layout.{in_room, definition_bytes, definition_size};
 ghost use Rattle.paper.specs.Tables.Lent.{patch, padded};
 ghost use Rattle.field.specs.Cursor.{rest};
-ghost use Rattle.room.specs.Sized.{noTables};
-ghost use Rattle.pack_body.specs.Body.{HeadFits, tailWidth, bodyWidth, TailIs, BodyIs};
-ghost use Rattle.pack_field.specs.Parts.{maxPlace, Filled};
+ghost use Rattle.room.specs.Sized.{no_tables};
+ghost use Rattle.pack_body.specs.Body.{HeadFits, tail_width, body_width, TailIs, BodyIs};
+ghost use Rattle.pack_field.specs.Parts.{max_place, Filled};
 ghost use Rattle.pack_ranges.specs.Ranges.{Ranged};
 ghost use Rattle.pack_body.specs.Definitions.{DefinitionIs, meant};
 
@@ -38,7 +38,7 @@ pub enum DefinitionRead {
 
 // A definition: invoke, group and length, which break no rule.
 fn read_definition(pack: &[u8], from: BitCursor) -> DefinitionRead
-    requires { from.at + definitionWidth ≤ maxPlace }
+    requires { from.at + definition_width ≤ max_place }
     ensures { DefinitionIs pack.now from.at result }
 {
     match from.field(pack, FLAG_WIDTH) {
@@ -68,8 +68,8 @@ fn flag_of(b: bool) -> u8
 
 // Entry i of the definition table.
 fn put_definition(definitions: &mut [u8], i: usize, d: Definition)
-    requires { definitionSize * i + definitionSize ≤ length definitions.old }
-    ensures { definitions.new ≡ patch (definitionSize * i) (definitionBytes (meant d)) definitions.old }
+    requires { definition_size * i + definition_size ≤ length definitions.old }
+    ensures { definitions.new ≡ patch (definition_size * i) (definition_bytes (meant d)) definitions.old }
 {
     let at = DEFINITION_BYTES * i;
     table::put_u32(definitions, at, d.length);
@@ -79,9 +79,9 @@ fn put_definition(definitions: &mut [u8], i: usize, d: Definition)
 
 // So many definitions, into their table.
 fn read_definitions(pack: &[u8], from: BitCursor, n: usize, definitions: &mut [u8]) -> PartRead
-    requires n_bound { from.at + definitionWidth * n ≤ maxPlace }
-    requires n_in_bounds { definitionSize * n ≤ length definitions.old }
-    ensures { Filled definitionBytes (many n readDefinition from.at (rest pack.now from.at)) from.at definitionWidth n 0 pack.now definitions.old definitions.new result }
+    requires n_bound { from.at + definition_width * n ≤ max_place }
+    requires n_in_bounds { definition_size * n ≤ length definitions.old }
+    ensures { Filled definition_bytes (many n read_definition from.at (rest pack.now from.at)) from.at definition_width n 0 pack.now definitions.old definitions.new result }
 {
     let mut at = from.at;
     let mut i = 0;
@@ -109,9 +109,9 @@ fn read_tail(
     ranges: &mut [u8],
     references: &mut [u8],
 ) -> PartRead
-    requires head_bound { from.at + tailWidth head ≤ maxPlace }
+    requires head_bound { from.at + tail_width head ≤ max_place }
     requires head_fits { HeadFits head }
-    requires definitions_value { definitions.old ≡ padded (definitionSize * maxCategoryLines) [] }
+    requires definitions_value { definitions.old ≡ padded (definition_size * max_category_lines) [] }
     requires ranged { Ranged [] (record { ranges = ranges.now; references = references.old }) }
     ensures { TailIs pack.now from.at head definitions.new (record { ranges = ranges.exit.now; references = references.new }) result }
 {
@@ -153,9 +153,9 @@ pub fn read_body(
     ranges: &mut [u8],
     references: &mut [u8],
 ) -> CountRead
-    requires head_bound { from.at + bodyWidth head ≤ maxPlace }
+    requires head_bound { from.at + body_width head ≤ max_place }
     requires head_fits { HeadFits head }
-    requires references_value { record { names = names.now; categories = categories.old; definitions = definitions.old; ranges = ranges.old; references = references.old } ≡ inRoom noTables }
+    requires references_value { record { names = names.now; categories = categories.old; definitions = definitions.old; ranges = ranges.old; references = references.old } ≡ in_room no_tables }
     ensures { BodyIs pack.now from.at head (record { names = names.exit.now; categories = categories.new; definitions = definitions.new; ranges = ranges.new; references = references.new }) result }
 {
     match read_names(pack, from, head.categories, names, categories) {

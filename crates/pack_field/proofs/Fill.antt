@@ -8,10 +8,10 @@ use mathlib.Core.Path.{◌≡◌, refl, sym, ap, ◌∙◌}
 use mathlib.Core.List.{List, [], ◌∷◌, ◌++◌, map, append_assoc, append-nil}
 use lib.ListN.{length, length-append}
 use Rattle.paper.specs.Lists.{joined}
-use Rattle.paper.specs.Computed.ReadPack.{FieldStep, gave, broke, Reader, afterStep, ◌▹◌, give, many}
+use Rattle.paper.specs.Computed.ReadPack.{FieldStep, gave, broke, Reader, after_step, ◌▹◌, give, many}
 use Rattle.paper.specs.Tables.Lent.{patch}
-use Rattle.paper.proofs.Tables.Laws.{patch-in, patch-length, table-length}
-use Rattle.paper.proofs.Tables.Append.{patch-patch, table-snoc}
+use Rattle.paper.proofs.Tables.Laws.{patch_in, patch_length, table_length}
+use Rattle.paper.proofs.Tables.Append.{patch_patch, table_snoc}
 use Rattle.field.specs.Cursor.{rest}
 use Rattle.pack_field.specs.Parts.{Fills}
 
@@ -20,28 +20,28 @@ abbrev pub prepend : {A : Type 0} → List A → FieldStep (List A) → FieldSte
 prepend xs (gave ys at s) = gave (xs ++ ys) at s
 prepend xs (broke n q) = broke n q
 
-pub prepend-more : {A : Type 0} (xs : List A) (x : A) (g : FieldStep (List A)) → prepend xs (prepend (x ∷ []) g) ≡ prepend (xs ++ (x ∷ [])) g
-prepend-more xs x (gave ys at s) = ap (λ l. gave l at s) (sym (append_assoc xs (x ∷ []) ys))
-prepend-more xs x (broke n q) = refl
+pub prepend_more : {A : Type 0} (xs : List A) (x : A) (g : FieldStep (List A)) → prepend xs (prepend (x ∷ []) g) ≡ prepend (xs ++ (x ∷ [])) g
+prepend_more xs x (gave ys at s) = ap (λ l. gave l at s) (sym (append_assoc xs (x ∷ []) ys))
+prepend_more xs x (broke n q) = refl
 
-pub prepend-none : {A : Type 0} (g : FieldStep (List A)) → g ≡ prepend [] g
-prepend-none (gave ys at s) = refl
-prepend-none (broke n q) = refl
+pub prepend_none : {A : Type 0} (g : FieldStep (List A)) → g ≡ prepend [] g
+prepend_none (gave ys at s) = refl
+prepend_none (broke n q) = refl
 
-pub put_first : {A : Type 0} (x : A) (g : FieldStep (List A)) → afterStep g (λ xs. give (x ∷ xs)) ≡ prepend (x ∷ []) g
-unfolding afterStep give
+pub put_first : {A : Type 0} (x : A) (g : FieldStep (List A)) → after_step g (λ xs. give (x ∷ xs)) ≡ prepend (x ∷ []) g
+unfolding after_step give
 put_first x (gave ys at s) = refl
 put_first x (broke n q) = refl
 
-many-on : {A : Type 0} (rd : Reader A) (k at : ℕ) (s : List ℕ) (x : A) (at₁ : ℕ) (s₁ : List ℕ) → rd at s ≡ gave x at₁ s₁
+many_on : {A : Type 0} (rd : Reader A) (k at : ℕ) (s : List ℕ) (x : A) (at₁ : ℕ) (s₁ : List ℕ) → rd at s ≡ gave x at₁ s₁
     → many (suc k) rd at s ≡ prepend (x ∷ []) (many k rd at₁ s₁)
-unfolding many ◌▹◌ afterStep
-many-on rd k at s x at₁ s₁ e =
-    ap (λ o. afterStep o (λ y. ◌▹◌ (many k rd) (λ ys. give (y ∷ ys)))) e ∙ put_first x (many k rd at₁ s₁)
+unfolding many ◌▹◌ after_step
+many_on rd k at s x at₁ s₁ e =
+    ap (λ o. after_step o (λ y. ◌▹◌ (many k rd) (λ ys. give (y ∷ ys)))) e ∙ put_first x (many k rd at₁ s₁)
 
-many-off : {A : Type 0} (rd : Reader A) (k at : ℕ) (s : List ℕ) (n q : ℕ) → rd at s ≡ broke n q → many (suc k) rd at s ≡ broke n q
-unfolding many ◌▹◌ afterStep
-many-off rd k at s n q e = ap (λ o. afterStep o (λ y. ◌▹◌ (many k rd) (λ ys. give (y ∷ ys)))) e
+many_off : {A : Type 0} (rd : Reader A) (k at : ℕ) (s : List ℕ) (n q : ℕ) → rd at s ≡ broke n q → many (suc k) rd at s ≡ broke n q
+unfolding many ◌▹◌ after_step
+many_off rd k at s n q e = ap (λ o. after_step o (λ y. ◌▹◌ (many k rd) (λ ys. give (y ∷ ys)))) e
 
 -- after i of n entries
 pub record Going {A : Type 0} (f : A → List ℕ) (w : ℕ) (rd : Reader A) (width at₀ n start : ℕ) (p l₀ : List ℕ) (at : ℕ) (l : List ℕ) (i : ℕ) : Type 0 where
@@ -65,8 +65,8 @@ module _ {A : Type 0} (f : A → List ℕ) (w : ℕ) (wide : (x : A) → length 
         on = omega arith;
         size = refl;
         long = refl;
-        is = patch-in start [] l₀ (omega arith);
-        left = prepend-none (many n rd at₀ (rest p at₀)) ∙ ap (λ m. prepend [] (many m rd at₀ (rest p at₀))) e;
+        is = patch_in start [] l₀ (omega arith);
+        left = prepend_none (many n rd at₀ (rest p at₀)) ∙ ap (λ m. prepend [] (many m rd at₀ (rest p at₀))) e;
       }
 
   module _ (at : ℕ) (l : List ℕ) (i : ℕ) (z : Going f w rd width at₀ n start p l₀ at l i) where
@@ -74,7 +74,7 @@ module _ {A : Type 0} (f : A → List ℕ) (w : ℕ) (wide : (x : A) → length 
         → here ≡ start + w * i → w * i + w ≤ w * n → l₁ ≡ patch here (f x) l → Going f w rd width at₀ n start p l₀ at₁ l₁ (i + 1)
     one_more lt x at₁ l₁ here e o eh fits eq =
         let xs = z.all in
-        let a : length (joined (map f xs)) ≡ w * length xs = table-length w f wide xs in
+        let a : length (joined (map f xs)) ≡ w * length xs = table_length w f wide xs in
         let b : w * length xs ≡ w * i = ap (λ k. w * k) z.size in
         let d : length (f x) ≡ w = wide x in
         let k : n - i ≡ suc (n - (i + 1)) = omega arith in
@@ -87,20 +87,20 @@ module _ {A : Type 0} (f : A → List ℕ) (w : ℕ) (wide : (x : A) → length 
           upto = omega arith;
           on = omega arith;
           size = omega arith;
-          long = ap length eq ∙ patch-length here (f x) l ∙ z.long;
+          long = ap length eq ∙ patch_length here (f x) l ∙ z.long;
           is = eq ∙ ap (patch here (f x)) z.is
-              ∙ patch-patch start here (joined (map f xs)) (f x) l₀ (omega arith) (omega arith)
-              ∙ ap (λ m. patch start m l₀) (sym (table-snoc f xs x));
+              ∙ patch_patch start here (joined (map f xs)) (f x) l₀ (omega arith) (omega arith)
+              ∙ ap (λ m. patch start m l₀) (sym (table_snoc f xs x));
           left = z.left ∙ ap (λ m. prepend xs (many m rd at (rest p at))) k
-              ∙ ap (prepend xs) (many-on rd (n - (i + 1)) at (rest p at) x at₁ (rest p at₁) e)
-              ∙ prepend-more xs x (many (n - (i + 1)) rd at₁ (rest p at₁));
+              ∙ ap (prepend xs) (many_on rd (n - (i + 1)) at (rest p at) x at₁ (rest p at₁) e)
+              ∙ prepend_more xs x (many (n - (i + 1)) rd at₁ (rest p at₁));
         }
 
-    pub broken-off : i < n → (m q : ℕ) → rd at (rest p at) ≡ broke m q → many n rd at₀ (rest p at₀) ≡ broke m q
-    broken-off lt m q e =
+    pub broken_off : i < n → (m q : ℕ) → rd at (rest p at) ≡ broke m q → many n rd at₀ (rest p at₀) ≡ broke m q
+    broken_off lt m q e =
         let k : n - i ≡ suc (n - (i + 1)) = omega arith in
         z.left ∙ ap (λ j. prepend z.all (many j rd at (rest p at))) k
-        ∙ ap (prepend z.all) (many-off rd (n - (i + 1)) at (rest p at) m q e)
+        ∙ ap (prepend z.all) (many_off rd (n - (i + 1)) at (rest p at) m q e)
 
     pub all_read : n ≤ i → Fills f (many n rd at₀ (rest p at₀)) at₀ width n start p l₀ l at
     unfolding many give

@@ -1,9 +1,9 @@
 -- What readers of a pack's parts promise alike: how far a cursor may go, and things of one width that went into a table.
 -- Assumes nothing.
 use Rattle.std.specs.Prelude.{ℕ, ◌+◌, ◌*◌, ◌≡◌, List, map, length}
-use Rattle.paper.specs.Sizes.{maxPackBytes}
+use Rattle.paper.specs.Sizes.{max_pack_bytes}
 use Rattle.paper.specs.Lists.{joined}
-use Rattle.paper.specs.Pack.Fields.{byteWidth}
+use Rattle.paper.specs.Pack.Fields.{byte_width}
 use Rattle.paper.specs.Computed.ReadPack.{FieldStep, gave, broke}
 use Rattle.paper.specs.Tables.Lent.{patch}
 use Rattle.field.specs.Cursor.{rest}
@@ -11,8 +11,8 @@ use Rattle.pack_field.specs.declared.PartRead.{PartRead}
 use Rattle.pack_field.specs.declared.PartRead.TheVariants as part
 
 -- "No pack exceeds 40,519 bytes": no field that is due stands behind so many bits, whatever the bytes are
-abbrev pub maxPlace : ℕ
-maxPlace = byteWidth * maxPackBytes
+abbrev pub max_place : ℕ
+max_place = byte_width * max_pack_bytes
 
 -- n things of one width that the paper reads one after another stand in a table from `start` on
 pub record Fills {A : Type 0} (f : A → List ℕ) (g : FieldStep (List A)) (at width n start : ℕ) (p l₀ l₁ : List ℕ) (next : ℕ) : Type 0 where

@@ -1,9 +1,9 @@
 // What the readers of a pack's parts share: what they answer, and a field that is held to a limit.
 ghost use Rattle.std.specs.Prelude.{◌≡◌, ◌≤◌};
-ghost use Rattle.paper.specs.Sizes.{maxReferences};
-ghost use Rattle.paper.specs.Computed.ReadPack.{number, countRule};
+ghost use Rattle.paper.specs.Sizes.{max_references};
+ghost use Rattle.paper.specs.Computed.ReadPack.{number, count_rule};
 ghost use Rattle.field.specs.Cursor.{widest, rest, said};
-ghost use Rattle.pack_field.specs.Parts.{maxPlace};
+ghost use Rattle.pack_field.specs.Parts.{max_place};
 
 use field::{BitCursor, Field};
 use paper::{PACK_RULE, Refusal};
@@ -24,9 +24,9 @@ pub enum CountRead {
 
 // A field that, with what is used already, stays within a limit.
 pub fn limited(pack: &[u8], from: BitCursor, width: usize, used: usize, limit: usize) -> Field
-    requires at_le_max_place { (from.at ≤ maxPlace) × ((1 ≤ width) × (width ≤ widest)) }
-    requires used_le_max_references { used ≤ maxReferences }
-    ensures { said pack.now result ≡ number width (countRule limit used) from.at (rest pack.now from.at) }
+    requires at_le_max_place { (from.at ≤ max_place) × ((1 ≤ width) × (width ≤ widest)) }
+    requires used_le_max_references { used ≤ max_references }
+    ensures { said pack.now result ≡ number width (count_rule limit used) from.at (rest pack.now from.at) }
 {
     match from.field(pack, width) {
         Field::Refused(r) => Field::Refused(r),

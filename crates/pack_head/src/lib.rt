@@ -1,11 +1,11 @@
 // The head of a pack: its version, then its counts, each held to its limit where it is read. What it says is of no use but to bound the loops behind it.
 ghost use Rattle.std.specs.Prelude.{◌+◌, ◌≤◌};
-ghost use Rattle.paper.specs.Sizes.{maxCategories, maxCategoryLines};
-ghost use Rattle.paper.specs.Pack.Fields.{headWidth};
-ghost use Rattle.paper.specs.Computed.ReadPack.{readFields, readCounted};
+ghost use Rattle.paper.specs.Sizes.{max_categories, max_category_lines};
+ghost use Rattle.paper.specs.Pack.Fields.{head_width};
+ghost use Rattle.paper.specs.Computed.ReadPack.{read_fields, read_counted};
 ghost use Rattle.field.specs.Cursor.{rest};
-ghost use Rattle.pack_field.specs.Parts.{maxPlace};
-ghost use Rattle.pack_head.specs.Head.{HeadIs, lastWidth, countsWidth, readLast};
+ghost use Rattle.pack_field.specs.Parts.{max_place};
+ghost use Rattle.pack_head.specs.Head.{HeadIs, last_width, counts_width, read_last};
 
 use field::{
     BitCursor, CATEGORIES_WIDTH, Field, LINES_WIDTH, RANGES_WIDTH, REFERENCES_WIDTH, VERSION_WIDTH,
@@ -35,8 +35,8 @@ pub enum HeadRead {
 
 // The counts of ranges and references.
 fn last_counts(pack: &[u8], from: BitCursor, categories: usize, lines: usize) -> HeadRead
-    requires { (from.at + lastWidth ≤ maxPlace) × ((categories ≤ maxCategories) × (lines ≤ maxCategoryLines)) }
-    ensures { HeadIs pack.now from.at lastWidth (readLast categories lines from.at (rest pack.now from.at)) result }
+    requires { (from.at + last_width ≤ max_place) × ((categories ≤ max_categories) × (lines ≤ max_category_lines)) }
+    ensures { HeadIs pack.now from.at last_width (read_last categories lines from.at (rest pack.now from.at)) result }
 {
     match limited(pack, from, RANGES_WIDTH, 0, MAX_RANGES) {
         Field::Refused(r) => HeadRead::Refused(r),
@@ -59,8 +59,8 @@ fn last_counts(pack: &[u8], from: BitCursor, categories: usize, lines: usize) ->
 
 // The counts of the head, behind the version.
 fn read_counts(pack: &[u8], from: BitCursor) -> HeadRead
-    requires { from.at + countsWidth ≤ maxPlace }
-    ensures { HeadIs pack.now from.at countsWidth (readCounted from.at (rest pack.now from.at)) result }
+    requires { from.at + counts_width ≤ max_place }
+    ensures { HeadIs pack.now from.at counts_width (read_counted from.at (rest pack.now from.at)) result }
 {
     match limited(pack, from, CATEGORIES_WIDTH, 0, MAX_CATEGORIES) {
         Field::Refused(r) => HeadRead::Refused(r),
@@ -77,8 +77,8 @@ fn read_counts(pack: &[u8], from: BitCursor) -> HeadRead
 
 // The head: the version, then the counts.
 pub fn read_head(pack: &[u8], from: BitCursor) -> HeadRead
-    requires { from.at + headWidth ≤ maxPlace }
-    ensures { HeadIs pack.now from.at headWidth (readFields from.at (rest pack.now from.at)) result }
+    requires { from.at + head_width ≤ max_place }
+    ensures { HeadIs pack.now from.at head_width (read_fields from.at (rest pack.now from.at)) result }
 {
     match from.field(pack, VERSION_WIDTH) {
         Field::Refused(r) => HeadRead::Refused(r),

@@ -2,13 +2,13 @@
 -- the cursor went.
 -- Assumes nothing.
 use Rattle.std.specs.Prelude.{ℕ, ◌+◌, ◌*◌, ◌≤◌, ◌<◌, ◌≡◌, Bool, List, [], ◌∷◌, ◌++◌, map, length, get_or}
-use Rattle.paper.specs.Sizes.{maxCategories, maxNameBytes}
+use Rattle.paper.specs.Sizes.{max_categories, max_name_bytes}
 use Rattle.paper.specs.Lists.{joined}
-use Rattle.paper.specs.CharDef.Reading.{nameBytes}
-use Rattle.paper.specs.Pack.Fields.{byteWidth, nameLengthWidth}
+use Rattle.paper.specs.CharDef.Reading.{name_bytes}
+use Rattle.paper.specs.Pack.Fields.{byte_width, name_length_width}
 use Rattle.paper.specs.Computed.ReadPack.{FieldStep, gave, broke}
-use Rattle.paper.specs.Computed.ReadPack.{bytesField, nameRule, readName}
-use Rattle.paper.specs.Tables.Layout.{nameSlotBytes, nameSlots, nameSlotSize}
+use Rattle.paper.specs.Computed.ReadPack.{bytes_field, name_rule, read_name}
+use Rattle.paper.specs.Tables.Layout.{name_slot_bytes, name_slots, name_slot_size}
 use Rattle.paper.specs.Tables.Lent.{padded}
 use Rattle.field.specs.Cursor.{rest}
 use Rattle.mark.specs.Mark.{mark}
@@ -23,16 +23,16 @@ pub record Store : Type 0 where
 
 -- these n names of `used` bytes and no more: one behind another from 0, in order, and zero after them
 pub record Stored (ns : List (List ℕ)) (names categories : List ℕ) (n used : ℕ) : Type 0 where
-  pub count-is : n ≡ length ns
-  pub bytes-is : used ≡ nameBytes ns
-  pub few : n ≤ maxCategories
-  pub short : used ≤ maxNameBytes
-  pub stored : names ≡ padded maxNameBytes (joined ns)
-  pub slotted : categories ≡ padded (nameSlotSize * maxCategories) (joined (map nameSlotBytes (nameSlots 0 (map length ns))))
+  pub count_is : n ≡ length ns
+  pub bytes_is : used ≡ name_bytes ns
+  pub few : n ≤ max_categories
+  pub short : used ≤ max_name_bytes
+  pub stored : names ≡ padded max_name_bytes (joined ns)
+  pub slotted : categories ≡ padded (name_slot_size * max_categories) (joined (map name_slot_bytes (name_slots 0 (map length ns))))
 
 pub record Named (ns : List (List ℕ)) (s : Store) (n used : ℕ) : Type 0 where
   pub holds : Stored ns s.names s.categories n used
-  pub marks-long : length s.marks ≡ maxCategories
+  pub marks_long : length s.marks ≡ max_categories
   pub marked : (k : ℕ) → k < n → get_or s.marks k 0 ≡ mark (get_or ns k [])
 
 -- it holds some names
@@ -42,12 +42,12 @@ pub record Naming (s : Store) (n used : ℕ) : Type 0 where
 
 -- the last name keeps the rule of a name behind those before it
 abbrev pub KeptIs : Store → (i start len : ℕ) → Bool → Type 0
-KeptIs s i start len r = (ns : List (List ℕ)) (name : List ℕ) → Named (ns ++ (name ∷ [])) s (i + 1) (start + len) → length name ≡ len → r ≡ nameRule ns name
+KeptIs s i start len r = (ns : List (List ℕ)) (name : List ℕ) → Named (ns ++ (name ∷ [])) s (i + 1) (start + len) → length name ≡ len → r ≡ name_rule ns name
 
 -- one name more, whose length has `width` bits before it
 pub record NameIn (p : List ℕ) (at width : ℕ) (g : FieldStep (List ℕ)) (ns : List (List ℕ)) (s : Store) (n used : ℕ) (len next : ℕ) : Type 0 where
   pub name : List ℕ
-  pub on : next ≡ at + width + byteWidth * len
+  pub on : next ≡ at + width + byte_width * len
   pub reads : g ≡ gave name next (rest p next)
   pub size : length name ≡ len
   pub held : Named (ns ++ (name ∷ [])) s (n + 1) (used + len)
@@ -58,14 +58,14 @@ NameIs p at width g ns s n used (count.Refused r) = g ≡ broke r.number r.place
 
 -- behind whatever names the store holds: the bytes of so many, or a length and its bytes
 abbrev pub TakesName : List ℕ → (at len : ℕ) (s₀ s₁ : Store) (n used : ℕ) → CountRead → Type 0
-TakesName p at len s₀ s₁ n used r = (ns : List (List ℕ)) → Named ns s₀ n used → NameIs p at 0 (bytesField len (nameRule ns) at (rest p at)) ns s₁ n used r
+TakesName p at len s₀ s₁ n used r = (ns : List (List ℕ)) → Named ns s₀ n used → NameIs p at 0 (bytes_field len (name_rule ns) at (rest p at)) ns s₁ n used r
 
 abbrev pub ReadsName : List ℕ → (at : ℕ) (s₀ s₁ : Store) (n used : ℕ) → CountRead → Type 0
-ReadsName p at s₀ s₁ n used r = (ns : List (List ℕ)) → Named ns s₀ n used → NameIs p at nameLengthWidth (readName used ns at (rest p at)) ns s₁ n used r
+ReadsName p at s₀ s₁ n used r = (ns : List (List ℕ)) → Named ns s₀ n used → NameIs p at name_length_width (read_name used ns at (rest p at)) ns s₁ n used r
 
 pub record NamesIn (p : List ℕ) (at : ℕ) (g : FieldStep (List (List ℕ))) (names categories : List ℕ) (n used next : ℕ) : Type 0 where
   pub all : List (List ℕ)
-  pub on : next ≡ at + nameLengthWidth * n + byteWidth * used
+  pub on : next ≡ at + name_length_width * n + byte_width * used
   pub reads : g ≡ gave all next (rest p next)
   pub held : Stored all names categories n used
 

@@ -1,13 +1,13 @@
 // The names of a pack, one behind another into the store, each judged in its place before the next is read.
 ghost use Rattle.std.specs.Prelude.{◌≡◌, ◌+◌, ◌*◌, ◌-◌, ◌≤◌, ◌<◌, [], length, take, drop, set};
-ghost use Rattle.paper.specs.Sizes.{maxCategories, maxNameBytes};
-ghost use Rattle.paper.specs.Pack.Fields.{byteWidth, nameLengthWidth};
-ghost use Rattle.paper.specs.Computed.ReadPack.{readNames};
-ghost use Rattle.paper.specs.Tables.Layout.{nameSlotBytes, nameSlotSize};
+ghost use Rattle.paper.specs.Sizes.{max_categories, max_name_bytes};
+ghost use Rattle.paper.specs.Pack.Fields.{byte_width, name_length_width};
+ghost use Rattle.paper.specs.Computed.ReadPack.{read_names};
+ghost use Rattle.paper.specs.Tables.Layout.{name_slot_bytes, name_slot_size};
 ghost use Rattle.paper.specs.Tables.Lent.{patch};
 ghost use Rattle.mark.specs.Mark.{mark};
 ghost use Rattle.field.specs.Cursor.{rest};
-ghost use Rattle.pack_field.specs.Parts.{maxPlace};
+ghost use Rattle.pack_field.specs.Parts.{max_place};
 ghost use Rattle.pack_names.specs.Names.{Stored, Naming, KeptIs, TakesName, ReadsName, NamesAre};
 
 use field::{BitCursor, Field, NAME_LENGTH_WIDTH, Run};
@@ -24,9 +24,9 @@ fn place_name(
     start: usize,
     len: usize,
 )
-    requires name_slot_size_in_bounds { (nameSlotSize * i + nameSlotSize ≤ length categories.old) × (i < length marks.old) }
-    requires len_in_bounds { (start + len ≤ length names.now) × (start + len ≤ maxNameBytes) }
-    ensures { (categories.new ≡ patch (nameSlotSize * i) (nameSlotBytes (record { start = start; len = len })) categories.old) × (marks.new ≡ set marks.old i (mark (take len (drop start names.now)))) }
+    requires name_slot_size_in_bounds { (name_slot_size * i + name_slot_size ≤ length categories.old) × (i < length marks.old) }
+    requires len_in_bounds { (start + len ≤ length names.now) × (start + len ≤ max_name_bytes) }
+    ensures { (categories.new ≡ patch (name_slot_size * i) (name_slot_bytes (record { start = start; len = len })) categories.old) × (marks.new ≡ set marks.old i (mark (take len (drop start names.now)))) }
 {
     let at = CATEGORY_BYTES * i;
     table::put_u16(categories, at, start as u16);
@@ -65,8 +65,8 @@ fn take_name<'a>(
     i: usize,
     used: usize,
 ) -> CountRead
-    requires len_bound { from.at + byteWidth * len ≤ maxPlace }
-    requires i_lt_max_categories { (i < maxCategories) × ((1 ≤ len) × (used + len ≤ maxNameBytes)) }
+    requires len_bound { from.at + byte_width * len ≤ max_place }
+    requires i_lt_max_categories { (i < max_categories) × ((1 ≤ len) × (used + len ≤ max_name_bytes)) }
     requires naming { Naming (record { names = names.now; categories = categories.old; marks = marks.old }) i used }
     ensures { TakesName pack.now from.at len (record { names = names.entry.now; categories = categories.old; marks = marks.old }) (record { names = names.exit.now; categories = categories.new; marks = marks.new }) i used result }
 {
@@ -95,8 +95,8 @@ fn read_name<'a>(
     i: usize,
     used: usize,
 ) -> CountRead
-    requires used_bound { from.at + nameLengthWidth + byteWidth * (maxNameBytes - used) ≤ maxPlace }
-    requires i_lt_max_categories { (i < maxCategories) × (used ≤ maxNameBytes) }
+    requires used_bound { from.at + name_length_width + byte_width * (max_name_bytes - used) ≤ max_place }
+    requires i_lt_max_categories { (i < max_categories) × (used ≤ max_name_bytes) }
     requires naming { Naming (record { names = names.now; categories = categories.old; marks = marks.old }) i used }
     ensures { ReadsName pack.now from.at (record { names = names.entry.now; categories = categories.old; marks = marks.old }) (record { names = names.exit.now; categories = categories.new; marks = marks.new }) i used result }
 {
@@ -129,10 +129,10 @@ pub fn read_names(
     names: &mut [u8],
     categories: &mut [u8],
 ) -> CountRead
-    requires max_name_bytes_bound { from.at + nameLengthWidth * n + byteWidth * maxNameBytes ≤ maxPlace }
-    requires n_le_max_categories { n ≤ maxCategories }
+    requires max_name_bytes_bound { from.at + name_length_width * n + byte_width * max_name_bytes ≤ max_place }
+    requires n_le_max_categories { n ≤ max_categories }
     requires stored { Stored [] names.old categories.old 0 0 }
-    ensures { NamesAre pack.now from.at (readNames n 0 [] from.at (rest pack.now from.at)) names.new categories.new n result }
+    ensures { NamesAre pack.now from.at (read_names n 0 [] from.at (rest pack.now from.at)) names.new categories.new n result }
 {
     let mut marks = [0u32; MAX_CATEGORIES];
     let mut at = from.at;

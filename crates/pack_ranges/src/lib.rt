@@ -1,14 +1,14 @@
 // The ranges of a pack with their category numbers. Each range reads its own count: the head's total only limits their sum.
 ghost use Rattle.std.specs.Prelude.{◌≡◌, ◌+◌, ◌*◌, ◌-◌, ◌≤◌, [], ltb, length};
-ghost use Rattle.paper.specs.Sizes.{maxCategories, maxRanges, maxReferences};
+ghost use Rattle.paper.specs.Sizes.{max_categories, max_ranges, max_references};
 ghost use Rattle.paper.specs.Numbers.Bytes.{le};
-ghost use Rattle.paper.specs.Pack.Fields.{boundWidth, numberWidth, rangeWidth};
-ghost use Rattle.paper.specs.Pack.Rules.{isBound};
-ghost use Rattle.paper.specs.Computed.ReadPack.{number, many, readRange, readRanges};
-ghost use Rattle.paper.specs.Tables.Layout.{slotBytes, rangeSlotSize, referenceSize};
+ghost use Rattle.paper.specs.Pack.Fields.{bound_width, number_width, range_width};
+ghost use Rattle.paper.specs.Pack.Rules.{is_bound};
+ghost use Rattle.paper.specs.Computed.ReadPack.{number, many, read_range, read_ranges};
+ghost use Rattle.paper.specs.Tables.Layout.{slot_bytes, range_slot_size, reference_size};
 ghost use Rattle.paper.specs.Tables.Lent.{patch};
 ghost use Rattle.field.specs.Cursor.{rest, said};
-ghost use Rattle.pack_field.specs.Parts.{maxPlace, Filled};
+ghost use Rattle.pack_field.specs.Parts.{max_place, Filled};
 ghost use Rattle.pack_ranges.specs.Ranges.{BoundsAre, RangeIs, Ranged, RangesAre};
 
 use field::{BOUND_WIDTH, BitCursor, COUNT_WIDTH, Field, NUMBER_WIDTH};
@@ -32,8 +32,8 @@ pub enum BoundsRead {
 
 // A category number, which is below the number of categories.
 fn known_field(pack: &[u8], from: BitCursor, known: usize) -> Field
-    requires { from.at ≤ maxPlace }
-    ensures { said pack.now result ≡ number numberWidth (λ c. ltb c known) from.at (rest pack.now from.at) }
+    requires { from.at ≤ max_place }
+    ensures { said pack.now result ≡ number number_width (λ c. ltb c known) from.at (rest pack.now from.at) }
 {
     match from.field(pack, NUMBER_WIDTH) {
         Field::Refused(r) => Field::Refused(r),
@@ -51,8 +51,8 @@ fn known_field(pack: &[u8], from: BitCursor, known: usize) -> Field
 
 // A bound of a range: not D800 to DFFF, FEFF or FFFE.
 fn bound_field(pack: &[u8], from: BitCursor) -> Field
-    requires { from.at ≤ maxPlace }
-    ensures { said pack.now result ≡ number boundWidth isBound from.at (rest pack.now from.at) }
+    requires { from.at ≤ max_place }
+    ensures { said pack.now result ≡ number bound_width is_bound from.at (rest pack.now from.at) }
 {
     match from.field(pack, BOUND_WIDTH) {
         Field::Refused(r) => Field::Refused(r),
@@ -70,9 +70,9 @@ fn bound_field(pack: &[u8], from: BitCursor) -> Field
 
 // A range's bounds and its count, which with the references so far stays within the head's total.
 fn read_bounds(pack: &[u8], from: BitCursor, known: usize, total: usize, used: usize) -> BoundsRead
-    requires range_width_bound { from.at + rangeWidth ≤ maxPlace }
-    requires used_le_total { (used ≤ total) × (total ≤ maxReferences) }
-    ensures { BoundsAre pack.now from.at known total used (readRange known total used from.at (rest pack.now from.at)) result }
+    requires range_width_bound { from.at + range_width ≤ max_place }
+    requires used_le_total { (used ≤ total) × (total ≤ max_references) }
+    ensures { BoundsAre pack.now from.at known total used (read_range known total used from.at (rest pack.now from.at)) result }
 {
     match bound_field(pack, from) {
         Field::Refused(r) => BoundsRead::Refused(r),
@@ -102,10 +102,10 @@ fn read_references(
     references: &mut [u8],
     used: usize,
 ) -> PartRead
-    requires n_bound { from.at + numberWidth * n ≤ maxPlace }
-    requires n_in_bounds { referenceSize * used + referenceSize * n ≤ length references.old }
-    requires known_le_max_categories { (known ≤ maxCategories) × (used + n ≤ maxReferences) }
-    ensures { Filled (le referenceSize) (many n (number numberWidth (λ c. ltb c known)) from.at (rest pack.now from.at)) from.at numberWidth n (referenceSize * used) pack.now references.old references.new result }
+    requires n_bound { from.at + number_width * n ≤ max_place }
+    requires n_in_bounds { reference_size * used + reference_size * n ≤ length references.old }
+    requires known_le_max_categories { (known ≤ max_categories) × (used + n ≤ max_references) }
+    ensures { Filled (le reference_size) (many n (number number_width (λ c. ltb c known)) from.at (rest pack.now from.at)) from.at number_width n (reference_size * used) pack.now references.old references.new result }
 {
     let mut at = from.at;
     let mut i = 0;
@@ -124,8 +124,8 @@ fn read_references(
 
 // Entry i of the range table.
 fn put_range(ranges: &mut [u8], i: usize, lower: u16, upper: u16, first: u16, count: u16)
-    requires { rangeSlotSize * i + rangeSlotSize ≤ length ranges.old }
-    ensures { ranges.new ≡ patch (rangeSlotSize * i) (slotBytes (record { lower = lower; upper = upper; first = first; count = count })) ranges.old }
+    requires { range_slot_size * i + range_slot_size ≤ length ranges.old }
+    ensures { ranges.new ≡ patch (range_slot_size * i) (slot_bytes (record { lower = lower; upper = upper; first = first; count = count })) ranges.old }
 {
     let at = RANGE_BYTES * i;
     table::put_u16(ranges, at, lower);
@@ -145,10 +145,10 @@ fn read_range(
     references: &mut [u8],
     used: usize,
 ) -> CountRead
-    requires used_bound { from.at + rangeWidth + numberWidth * (total - used) ≤ maxPlace }
-    requires known_le_max_categories { (known ≤ maxCategories) × ((used ≤ total) × (total ≤ maxReferences)) }
-    requires range_slot_size_in_bounds { (rangeSlotSize * i + rangeSlotSize ≤ length ranges.old) × (referenceSize * total ≤ length references.old) }
-    ensures { RangeIs pack.now from.at (readRange known total used from.at (rest pack.now from.at)) total i used (record { ranges = ranges.entry.now; references = references.old }) (record { ranges = ranges.exit.now; references = references.new }) result }
+    requires used_bound { from.at + range_width + number_width * (total - used) ≤ max_place }
+    requires known_le_max_categories { (known ≤ max_categories) × ((used ≤ total) × (total ≤ max_references)) }
+    requires range_slot_size_in_bounds { (range_slot_size * i + range_slot_size ≤ length ranges.old) × (reference_size * total ≤ length references.old) }
+    ensures { RangeIs pack.now from.at (read_range known total used from.at (rest pack.now from.at)) total i used (record { ranges = ranges.entry.now; references = references.old }) (record { ranges = ranges.exit.now; references = references.new }) result }
 {
     match read_bounds(pack, from, known, total, used) {
         BoundsRead::Refused(r) => CountRead::Refused(r),
@@ -174,10 +174,10 @@ pub fn read_ranges(
     ranges: &mut [u8],
     references: &mut [u8],
 ) -> CountRead
-    requires total_bound { from.at + rangeWidth * n + numberWidth * total ≤ maxPlace }
-    requires known_le_max_categories { (known ≤ maxCategories) × ((n ≤ maxRanges) × (total ≤ maxReferences)) }
+    requires total_bound { from.at + range_width * n + number_width * total ≤ max_place }
+    requires known_le_max_categories { (known ≤ max_categories) × ((n ≤ max_ranges) × (total ≤ max_references)) }
     requires ranged { Ranged [] (record { ranges = ranges.now; references = references.old }) }
-    ensures { RangesAre pack.now from.at (readRanges n known total 0 from.at (rest pack.now from.at)) total n (record { ranges = ranges.exit.now; references = references.new }) result }
+    ensures { RangesAre pack.now from.at (read_ranges n known total 0 from.at (rest pack.now from.at)) total n (record { ranges = ranges.exit.now; references = references.new }) result }
 {
     let mut at = from.at;
     let mut used = 0;

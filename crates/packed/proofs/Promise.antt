@@ -7,31 +7,31 @@ use mathlib.Core.Bool.{not}
 use mathlib.Core.List.{List}
 use mathlib.Core.Option.{Option, none, some}
 use lib.Dec.{T}
-use Rattle.paper.specs.Sizes.{bmpSize}
-use Rattle.paper.specs.Refusals.{notScalar}
+use Rattle.paper.specs.Sizes.{bmp_size}
+use Rattle.paper.specs.Refusals.{not_scalar}
 use Rattle.paper.specs.Text.Scalar.{is_scalar, IsScalar}
 use Rattle.paper.specs.CharDef.Reading.{Reading}
-use Rattle.paper.specs.Rows.Flat.{entryOffset, entryLength, flatEntry}
+use Rattle.paper.specs.Rows.Flat.{entry_offset, entry_length, flat_entry}
 use Rattle.paper.specs.Rows.Lookup.{Looked, gives, refuses, LookupTables, FlatLeft, packed_at}
 use Rattle.paper.proofs.Apart.{zero_one}
-use Rattle.paper.proofs.Rows.Lookup.{packed-no-scalar}
-use Rattle.paper.proofs.Rows.AsBuilt.{packed-there}
+use Rattle.paper.proofs.Rows.Lookup.{packed_no_scalar}
+use Rattle.paper.proofs.Rows.AsBuilt.{packed_there}
 use Rattle.packed.specs.declared.Packed.{Packed}
-use Rattle.packed.specs.declared.PackedFound.TheVariants as packed-found
+use Rattle.packed.specs.declared.PackedFound.TheVariants as packed_found
 use Rattle.packed.specs.Entries.{packed}
 
 -- 14 where c is no scalar value
-pub no-packed : (index : List ℕ) (c : ℕ) → T (not (is_scalar c)) → packed (packed_at index c) ≡ packed-found.Refused (record { number = notScalar; place = 0 })
-no-packed index c n = ap packed (packed-no-scalar index c n)
+pub no_packed : (index : List ℕ) (c : ℕ) → T (not (is_scalar c)) → packed (packed_at index c) ≡ packed_found.Refused (record { number = not_scalar; place = 0 })
+no_packed index c n = ap packed (packed_no_scalar index c n)
 
 -- a part that is there is the offset and the length of some entry
-pub entry_of : (a : Looked (Option ℕ)) (p : Packed) → packed a ≡ packed-found.At p
-    → (e : ℕ) × ((a ≡ gives (some e)) × (p ≡ record { offset = entryOffset e; len = entryLength e }))
+pub entry_of : (a : Looked (Option ℕ)) (p : Packed) → packed a ≡ packed_found.At p
+    → (e : ℕ) × ((a ≡ gives (some e)) × (p ≡ record { offset = entry_offset e; len = entry_length e }))
 entry_of (gives (some e)) p h = (e, (refl, cc))
 entry_of (gives none) p h = zero_one (cc)
 entry_of (refuses n) p h = zero_one (cc)
 
 -- with a flat table there is an entry at every scalar value of the BMP
-module _ (r : Reading) (t : LookupTables) (left : FlatLeft r t) (c : ℕ) (s : IsScalar c) (low : c < bmpSize) where
-  pub built-packed : packed (packed_at t.index c) ≡ packed-found.At (record { offset = entryOffset (flatEntry r c); len = entryLength (flatEntry r c) })
-  built-packed = ap packed (packed-there r t left c s low)
+module _ (r : Reading) (t : LookupTables) (left : FlatLeft r t) (c : ℕ) (s : IsScalar c) (low : c < bmp_size) where
+  pub built_packed : packed (packed_at t.index c) ≡ packed_found.At (record { offset = entry_offset (flat_entry r c); len = entry_length (flat_entry r c) })
+  built_packed = ap packed (packed_there r t left c s low)

@@ -1,10 +1,10 @@
 // The packed entry of a code point, and one category of the flat pool. The index and the pool are lent, and neither is believed: what would lie outside of
 // one is 26. What the lookup of categories needs besides stands here too: which numbers are scalar values, and how a flat entry is put together.
 ghost use Rattle.std.specs.Prelude.{◌≡◌, true, ◌<◌};
-ghost use Rattle.paper.specs.Sizes.{bmpSize};
+ghost use Rattle.paper.specs.Sizes.{bmp_size};
 ghost use Rattle.paper.specs.Text.Scalar.{is_scalar};
 ghost use Rattle.paper.specs.Rows.Lookup.{packed_at};
-ghost use Rattle.packed.specs.Entries.{packed, categoryIn, category};
+ghost use Rattle.packed.specs.Entries.{packed, category_in, category};
 
 use paper::{BMP_SIZE, NOT_SCALAR, Refusal, TABLES_APART};
 
@@ -62,7 +62,7 @@ pub fn is_scalar(c: u32) -> bool
 
 // The part of the flat pool that the index names for a scalar value of the BMP; absent with an empty index.
 fn packed_in(flat_index: &[u32], c: u32) -> PackedFound
-    requires { (is_scalar c ≡ true) × (c < bmpSize) }
+    requires { (is_scalar c ≡ true) × (c < bmp_size) }
     ensures { result ≡ packed (packed_at flat_index.now c) }
 {
     let at = c as usize;
@@ -105,7 +105,7 @@ pub fn lookup_categories_packed(flat_index: &[u32], c: u32) -> PackedFound
 
 // One category of the flat pool, for whoever keeps a packed part.
 pub fn flat_category(flat_pool: &[u16], i: usize) -> CategoryAt
-    ensures { result ≡ category (categoryIn flat_pool.now i) }
+    ensures { result ≡ category (category_in flat_pool.now i) }
 {
     if i < flat_pool.len() {
         return CategoryAt::Category(flat_pool[i]);

@@ -11,28 +11,28 @@ use lib.Dec.{T, ltb}
 use lib.ListN.{length, take, drop}
 use lib.Seq.{take_at, drop_at}
 use borrow.Author.Tests.{lt-ltb, le-ltb, ltb-true, ltb-false}
-use Rattle.paper.specs.Sizes.{maxPackBytes}
-use Rattle.paper.specs.Refusals.{packRoomShort, tablesApart}
+use Rattle.paper.specs.Sizes.{max_pack_bytes}
+use Rattle.paper.specs.Refusals.{pack_room_short, tables_apart}
 use Rattle.paper.specs.Lists.{all}
 use Rattle.paper.specs.Numbers.Bytes.{is_byte}
 use Rattle.paper.specs.CharDef.Reading.{Reading, accepted}
-use Rattle.paper.specs.Pack.Fields.{packBytes}
-use Rattle.paper.specs.Rows.Build.{Built, built, refusedBy, packWritten}
+use Rattle.paper.specs.Pack.Fields.{pack_bytes}
+use Rattle.paper.specs.Rows.Build.{Built, built, refused_by, pack_written}
 use Rattle.paper.specs.Tables.Layout.{Tables}
 use Rattle.paper.specs.Tables.HandedIn.{HoldTogether, OfBytes}
-use Rattle.paper.specs.Computed.HandedIn.{handedIn}
-use Rattle.paper.specs.Computed.ReadPack.{readPack}
+use Rattle.paper.specs.Computed.HandedIn.{handed_in}
+use Rattle.paper.specs.Computed.ReadPack.{read_pack}
 use Rattle.paper.specs.declared.Counts.{Counts}
 use Rattle.paper.specs.declared.Refusal.{Refusal}
-use Rattle.paper.proofs.Apart.{zero_one, none-some}
-use Rattle.paper.proofs.Pack.Size.{pack-length}
-use Rattle.paper.proofs.Pack.Trip.{write_read, read-write}
-use Rattle.paper.proofs.Tables.Holds.{stands-handed, handed-one}
-use Rattle.paper.proofs.Tables.Trip.{handed-back}
+use Rattle.paper.proofs.Apart.{zero_one, none_some}
+use Rattle.paper.proofs.Pack.Size.{pack_length_lem}
+use Rattle.paper.proofs.Pack.Trip.{write_read, read_write}
+use Rattle.paper.proofs.Tables.Holds.{stands_handed, handed_one}
+use Rattle.paper.proofs.Tables.Trip.{handed_back}
 use Rattle.packer.specs.declared.Written.{Written}
 use Rattle.packer.specs.declared.Written.TheVariants.{Length, Refused}
-use Rattle.packer.specs.Write.{packOf, given, leaves, WritesPack}
-use Rattle.packer.proofs.Answer.{room-is}
+use Rattle.packer.specs.Write.{pack_of, given, leaves, WritesPack}
+use Rattle.packer.proofs.Answer.{room_is}
 
 -- ---- NOTHING IS LEFT OPEN: two outcomes that the promise allows coincide, in the answer and in the memory
 
@@ -42,39 +42,39 @@ writes_one p q = (p.answer ∙ sym q.answer, p.memory ∙ sym q.memory)
 -- ---- where a reading stands in the tables
 
 -- 22 at place 0
-abbrev pub roomRefused : Written
-roomRefused = Refused (record { number = packRoomShort; place = 0 })
+abbrev pub room_refused : Written
+room_refused = Refused (record { number = pack_room_short; place = 0 })
 
 -- 26 at place 0
-abbrev pub apartRefused : Written
-apartRefused = Refused (record { number = tablesApart; place = 0 })
+abbrev pub apart_refused : Written
+apart_refused = Refused (record { number = tables_apart; place = 0 })
 
-by-case : {t : Tables} {n : Counts} {lent after : List ℕ} {r : Written} → WritesPack t n lent after r → (o : Option Reading) (b : Built) → handedIn t n ≡ o
-    → packWritten o (length lent) ≡ b → (r ≡ given b (packOf o)) × (after ≡ leaves b (packOf o) lent)
-by-case {t} {n} {lent} p o b eo eb =
-    let e : packWritten (handedIn t n) (length lent) ≡ b = ap (λ x. packWritten x (length lent)) eo ∙ eb in
+by_case : {t : Tables} {n : Counts} {lent after : List ℕ} {r : Written} → WritesPack t n lent after r → (o : Option Reading) (b : Built) → handed_in t n ≡ o
+    → pack_written o (length lent) ≡ b → (r ≡ given b (pack_of o)) × (after ≡ leaves b (pack_of o) lent)
+by_case {t} {n} {lent} p o b eo eb =
+    let e : pack_written (handed_in t n) (length lent) ≡ b = ap (λ x. pack_written x (length lent)) eo ∙ eb in
     (p.answer ∙ rw (e, eo), p.memory ∙ rw (e, eo))
 
 module _ {t : Tables} {n : Counts} {lent after : List ℕ} {r : Written} (p : WritesPack t n lent after r) (q : Reading) (h : HoldTogether t n q) where
-  handed : handedIn t n ≡ some q
-  handed = stands-handed t n q h
+  handed : handed_in t n ≡ some q
+  handed = stands_handed t n q h
 
   -- the room is long enough: the pack's length, the pack's bytes, and what lies behind them as it was
-  pub room-enough : length (packBytes q) ≤ length lent → (r ≡ Length (length (packBytes q))) × (after ≡ packBytes q ++ drop (length (packBytes q)) lent)
-  room-enough k = by-case p (some q) built handed (room-is q (length lent) false (le-ltb (length lent) (length (packBytes q)) k))
+  pub room_enough : length (pack_bytes q) ≤ length lent → (r ≡ Length (length (pack_bytes q))) × (after ≡ pack_bytes q ++ drop (length (pack_bytes q)) lent)
+  room_enough k = by_case p (some q) built handed (room_is q (length lent) false (le-ltb (length lent) (length (pack_bytes q)) k))
 
   -- it is not: 22, and nothing is changed
-  pub room-short : length lent < length (packBytes q) → (r ≡ roomRefused) × (after ≡ lent)
-  room-short k = by-case p (some q) (refusedBy packRoomShort) handed (room-is q (length lent) true (lt-ltb (length lent) (length (packBytes q)) k))
+  pub room_short_lem : length lent < length (pack_bytes q) → (r ≡ room_refused) × (after ≡ lent)
+  room_short_lem k = by_case p (some q) (refused_by pack_room_short) handed (room_is q (length lent) true (lt-ltb (length lent) (length (pack_bytes q)) k))
 
   -- "No pack exceeds 40,519 bytes": in such a room every pack is written
-  pub always-written : maxPackBytes ≤ length lent → r ≡ Length (length (packBytes q))
-  always-written k = let m : length (packBytes q) ≤ maxPackBytes = pack-length q h.rules.limits in (room-enough (omega arith)).0
+  pub always_written : max_pack_bytes ≤ length lent → r ≡ Length (length (pack_bytes q))
+  always_written k = let m : length (pack_bytes q) ≤ max_pack_bytes = pack_length_lem q h.rules.limits in (room_enough (omega arith)).0
 
 -- none stands in them: 26, and nothing is changed
-pub none-stands : {t : Tables} {n : Counts} {lent after : List ℕ} {r : Written} → WritesPack t n lent after r → handedIn t n ≡ none → (r ≡ apartRefused) × (after ≡ lent)
-unfolding packWritten
-none-stands p e = by-case p none (refusedBy tablesApart) e refl
+pub none_stands : {t : Tables} {n : Counts} {lent after : List ℕ} {r : Written} → WritesPack t n lent after r → handed_in t n ≡ none → (r ≡ apart_refused) × (after ≡ lent)
+unfolding pack_written
+none_stands p e = by_case p none (refused_by tables_apart) e refl
 
 -- ---- the three answers, each given exactly when; what tables hold is bytes
 
@@ -90,105 +90,105 @@ apart a b h e = let d : mark a ≡ mark b = ap mark e in omega arith
 pub record Enough (t : Tables) (n : Counts) (lent : List ℕ) (k : ℕ) : Type 0 where
   pub reading : Reading
   pub stands : HoldTogether t n reading
-  pub long : k ≡ length (packBytes reading)
+  pub long : k ≡ length (pack_bytes reading)
   pub room : k ≤ length lent
 
 pub record Short (t : Tables) (n : Counts) (lent : List ℕ) : Type 0 where
   pub reading : Reading
   pub stands : HoldTogether t n reading
-  pub room : length lent < length (packBytes reading)
+  pub room : length lent < length (pack_bytes reading)
 
 -- one of the three
 pub data Answered (t : Tables) (n : Counts) (lent after : List ℕ) (r : Written) : Type 0 where
-  is-written : (k : ℕ) → Enough t n lent k → r ≡ Length k → Answered t n lent after r
-  is-short : Short t n lent → r ≡ roomRefused → after ≡ lent → Answered t n lent after r
-  is-apart : ((q : Reading) → HoldTogether t n q → ⊥) → r ≡ apartRefused → after ≡ lent → Answered t n lent after r
+  is_written : (k : ℕ) → Enough t n lent k → r ≡ Length k → Answered t n lent after r
+  is_short : Short t n lent → r ≡ room_refused → after ≡ lent → Answered t n lent after r
+  is_apart : ((q : Reading) → HoldTogether t n q → ⊥) → r ≡ apart_refused → after ≡ lent → Answered t n lent after r
 
 module _ {t : Tables} {n : Counts} {lent after : List ℕ} {r : Written} (b : OfBytes t) (p : WritesPack t n lent after r) where
   pub answered : Answered t n lent after r
-  answered = go (handedIn t n) refl
+  answered = go (handed_in t n) refl
     where
-      by-room : (q : Reading) → HoldTogether t n q → (x : Bool) → ltb (length lent) (length (packBytes q)) ≡ x → Answered t n lent after r
-      by-room q h true e =
-          let k = ltb-true (length lent) (length (packBytes q)) e in
-          let a = room-short p q h k in
-          is-short (record { reading = q; stands = h; room = k }) a.0 a.1
-      by-room q h false e =
-          let k = ltb-false (length lent) (length (packBytes q)) e in
-          is-written (length (packBytes q)) (record { reading = q; stands = h; long = refl; room = k }) (room-enough p q h k).0
+      by_room : (q : Reading) → HoldTogether t n q → (x : Bool) → ltb (length lent) (length (pack_bytes q)) ≡ x → Answered t n lent after r
+      by_room q h true e =
+          let k = ltb-true (length lent) (length (pack_bytes q)) e in
+          let a = room_short_lem p q h k in
+          is_short (record { reading = q; stands = h; room = k }) a.0 a.1
+      by_room q h false e =
+          let k = ltb-false (length lent) (length (pack_bytes q)) e in
+          is_written (length (pack_bytes q)) (record { reading = q; stands = h; long = refl; room = k }) (room_enough p q h k).0
 
-      go : (o : Option Reading) → handedIn t n ≡ o → Answered t n lent after r
-      go none e = let a = none-stands p e in is-apart (λ q h. none-some (sym e ∙ stands-handed t n q h)) a.0 a.1
-      go (some q) e = by-room q (handed-back t n q b e) (ltb (length lent) (length (packBytes q))) refl
+      go : (o : Option Reading) → handed_in t n ≡ o → Answered t n lent after r
+      go none e = let a = none_stands p e in is_apart (λ q h. none_some (sym e ∙ stands_handed t n q h)) a.0 a.1
+      go (some q) e = by_room q (handed_back t n q b e) (ltb (length lent) (length (pack_bytes q))) refl
 
   -- the pack is written
-  pub written-exactly : (k : ℕ) → (r ≡ Length k) ↔ Enough t n lent k
-  written-exactly k = (to answered, λ w. (room-enough p w.reading w.stands (let e = w.long in let h = w.room in omega arith)).0 ∙ ap Length (sym w.long))
+  pub written_exactly : (k : ℕ) → (r ≡ Length k) ↔ Enough t n lent k
+  written_exactly k = (to answered, λ w. (room_enough p w.reading w.stands (let e = w.long in let h = w.room in omega arith)).0 ∙ ap Length (sym w.long))
     where
       to : Answered t n lent after r → r ≡ Length k → Enough t n lent k
-      to (is-written m w e) d = let f : m ≡ k = cc in subst (Enough t n lent) f w
-      to (is-short w e m) d = absurd (apart (Length k) roomRefused (omega arith) (sym d ∙ e))
-      to (is-apart w e m) d = absurd (apart (Length k) apartRefused (omega arith) (sym d ∙ e))
+      to (is_written m w e) d = let f : m ≡ k = cc in subst (Enough t n lent) f w
+      to (is_short w e m) d = absurd (apart (Length k) room_refused (omega arith) (sym d ∙ e))
+      to (is_apart w e m) d = absurd (apart (Length k) apart_refused (omega arith) (sym d ∙ e))
 
   -- 22
-  pub short-exactly : (r ≡ roomRefused) ↔ Short t n lent
-  short-exactly = (to answered, λ w. (room-short p w.reading w.stands w.room).0)
+  pub short_exactly : (r ≡ room_refused) ↔ Short t n lent
+  short_exactly = (to answered, λ w. (room_short_lem p w.reading w.stands w.room).0)
     where
-      to : Answered t n lent after r → r ≡ roomRefused → Short t n lent
-      to (is-written m w e) d = absurd (apart (Length m) roomRefused (omega arith) (sym e ∙ d))
-      to (is-short w e m) d = w
-      to (is-apart w e m) d = absurd (apart roomRefused apartRefused (omega arith) (sym d ∙ e))
+      to : Answered t n lent after r → r ≡ room_refused → Short t n lent
+      to (is_written m w e) d = absurd (apart (Length m) room_refused (omega arith) (sym e ∙ d))
+      to (is_short w e m) d = w
+      to (is_apart w e m) d = absurd (apart room_refused apart_refused (omega arith) (sym d ∙ e))
 
   -- 26
-  pub apart-exactly : (r ≡ apartRefused) ↔ ((q : Reading) → HoldTogether t n q → ⊥)
-  apart-exactly = (to answered, from answered)
+  pub apart_exactly : (r ≡ apart_refused) ↔ ((q : Reading) → HoldTogether t n q → ⊥)
+  apart_exactly = (to answered, from answered)
     where
-      to : Answered t n lent after r → r ≡ apartRefused → (q : Reading) → HoldTogether t n q → ⊥
-      to (is-written m w e) d = absurd (apart (Length m) apartRefused (omega arith) (sym e ∙ d))
-      to (is-short w e m) d = absurd (apart roomRefused apartRefused (omega arith) (sym e ∙ d))
-      to (is-apart w e m) d = w
+      to : Answered t n lent after r → r ≡ apart_refused → (q : Reading) → HoldTogether t n q → ⊥
+      to (is_written m w e) d = absurd (apart (Length m) apart_refused (omega arith) (sym e ∙ d))
+      to (is_short w e m) d = absurd (apart room_refused apart_refused (omega arith) (sym e ∙ d))
+      to (is_apart w e m) d = w
 
-      from : Answered t n lent after r → ((q : Reading) → HoldTogether t n q → ⊥) → r ≡ apartRefused
-      from (is-written m w e) f = absurd (f w.reading w.stands)
-      from (is-short w e m) f = absurd (f w.reading w.stands)
-      from (is-apart w e m) f = e
+      from : Answered t n lent after r → ((q : Reading) → HoldTogether t n q → ⊥) → r ≡ apart_refused
+      from (is_written m w e) f = absurd (f w.reading w.stands)
+      from (is_short w e m) f = absurd (f w.reading w.stands)
+      from (is_apart w e m) f = e
 
   -- a refusal leaves lent memory unchanged
-  pub refused-unchanged : (x : Refusal) → r ≡ Refused x → after ≡ lent
-  refused-unchanged x d = to answered
+  pub refused_unchanged : (x : Refusal) → r ≡ Refused x → after ≡ lent
+  refused_unchanged x d = to answered
     where
       to : Answered t n lent after r → after ≡ lent
-      to (is-written m w e) = zero_one (cc)
-      to (is-short w e m) = m
-      to (is-apart w e m) = m
+      to (is_written m w e) = zero_one (cc)
+      to (is_short w e m) = m
+      to (is_apart w e m) = m
 
 -- ---- the pack that is written
 
 module _ {t : Tables} {n : Counts} {lent after : List ℕ} {r : Written} (b : OfBytes t) (p : WritesPack t n lent after r) (k : ℕ) (e : r ≡ Length k) where
   -- "No pack exceeds 40,519 bytes"
-  pub never-over : k ≤ maxPackBytes
-  never-over =
-      let w = (written-exactly b p k).0 e in
+  pub never_over : k ≤ max_pack_bytes
+  never_over =
+      let w = (written_exactly b p k).0 e in
       let l = w.long in
-      let m : length (packBytes w.reading) ≤ maxPackBytes = pack-length w.reading w.stands.rules.limits in
+      let m : length (pack_bytes w.reading) ≤ max_pack_bytes = pack_length_lem w.reading w.stands.rules.limits in
       omega arith
 
-  long-is : (q : Reading) → HoldTogether t n q → (k ≡ length (packBytes q)) × (k ≤ length lent)
-  long-is q h =
-      let w = (written-exactly b p k).0 e in
-      (w.long ∙ ap (λ x. length (packBytes x)) (handed-one t n w.reading q w.stands h), w.room)
+  long_is : (q : Reading) → HoldTogether t n q → (k ≡ length (pack_bytes q)) × (k ≤ length lent)
+  long_is q h =
+      let w = (written_exactly b p k).0 e in
+      (w.long ∙ ap (λ x. length (pack_bytes x)) (handed_one t n w.reading q w.stands h), w.room)
 
   -- the pack of the reading that stands in the tables, and nothing behind it is touched
-  pub pack-written : (q : Reading) → HoldTogether t n q → (take k after ≡ packBytes q) × (drop k after ≡ drop k lent)
-  pack-written q h =
-      let (l, f) = long-is q h in
-      let m : after ≡ packBytes q ++ drop (length (packBytes q)) lent = (room-enough p q h (omega arith)).1 in
-      (ap (take k) m ∙ take_at (packBytes q) _ k (sym l), ap (drop k) m ∙ drop_at (packBytes q) _ k (sym l) ∙ ap (λ i. drop i lent) (sym l))
+  pub pack_written_lem : (q : Reading) → HoldTogether t n q → (take k after ≡ pack_bytes q) × (drop k after ≡ drop k lent)
+  pack_written_lem q h =
+      let (l, f) = long_is q h in
+      let m : after ≡ pack_bytes q ++ drop (length (pack_bytes q)) lent = (room_enough p q h (omega arith)).1 in
+      (ap (take k) m ∙ take_at (pack_bytes q) _ k (sym l), ap (drop k) m ∙ drop_at (pack_bytes q) _ k (sym l) ∙ ap (λ i. drop i lent) (sym l))
 
   -- DEMAND 2: it is read back as that reading
-  pub read_back : (q : Reading) → HoldTogether t n q → readPack (take k after) ≡ accepted q
-  read_back q h = ap readPack (pack-written q h).0 ∙ write_read q h.rules
+  pub read_back : (q : Reading) → HoldTogether t n q → read_pack (take k after) ≡ accepted q
+  read_back q h = ap read_pack (pack_written_lem q h).0 ∙ write_read q h.rules
 
   -- DEMAND 2: where the reading was read from a pack, its bytes are written again
-  pub same_bytes : (q : Reading) → HoldTogether t n q → (pack : List ℕ) → T (all is_byte pack) → readPack pack ≡ accepted q → take k after ≡ pack
-  same_bytes q h pack a d = (pack-written q h).0 ∙ read-write pack q a d
+  pub same_bytes : (q : Reading) → HoldTogether t n q → (pack : List ℕ) → T (all is_byte pack) → read_pack pack ≡ accepted q → take k after ≡ pack
+  same_bytes q h pack a d = (pack_written_lem q h).0 ∙ read_write pack q a d

@@ -1,8 +1,8 @@
 // Writes the pack: "The pack", the writer. It tests the tables and the room; the fields go out part by part, and zero bits behind them.
 ghost use Rattle.std.specs.Prelude.{◌≡◌, ◌++◌, ◌≤◌, T, length, drop};
-ghost use Rattle.paper.specs.Pack.Fields.{packBytes};
+ghost use Rattle.paper.specs.Pack.Fields.{pack_bytes};
 ghost use Rattle.paper.specs.Computed.HandedIn.{decoded, holds};
-ghost use Rattle.packer.specs.Length.{packLength, Limited};
+ghost use Rattle.packer.specs.Length.{pack_length, Limited};
 ghost use Rattle.packer.specs.Write.{WritesPack};
 
 use field::{
@@ -32,7 +32,7 @@ pub enum Written {
 // The length in bytes of a pack with these counts: "zero bits fill the last byte".
 fn pack_length(counts: Counts) -> usize
     requires { Limited counts }
-    ensures { result ≡ packLength counts }
+    ensures { result ≡ pack_length counts }
 {
     let names = NAME_LENGTH_WIDTH * counts.categories + BYTE_WIDTH * counts.bytes;
     let definitions = DEFINITION_WIDTH * counts.definitions;
@@ -51,8 +51,8 @@ fn put_pack<'a>(
     counts: Counts,
 )
     requires t { T (holds (record { names = names.now; categories = categories.now; definitions = definitions.now; ranges = ranges.now; references = references.now }) counts) }
-    requires counts_in_bounds { packLength counts ≤ length out.old }
-    ensures { out.new ≡ packBytes (decoded (record { names = names.entry.now; categories = categories.now; definitions = definitions.now; ranges = ranges.now; references = references.now }) counts) ++ drop (length (packBytes (decoded (record { names = names.entry.now; categories = categories.now; definitions = definitions.now; ranges = ranges.now; references = references.now }) counts))) out.old }
+    requires counts_in_bounds { pack_length counts ≤ length out.old }
+    ensures { out.new ≡ pack_bytes (decoded (record { names = names.entry.now; categories = categories.now; definitions = definitions.now; ranges = ranges.now; references = references.now }) counts) ++ drop (length (pack_bytes (decoded (record { names = names.entry.now; categories = categories.now; definitions = definitions.now; ranges = ranges.now; references = references.now }) counts))) out.old }
 {
     let end = put_parts::put_fields(
         out,

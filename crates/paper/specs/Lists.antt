@@ -22,9 +22,9 @@ module _ {ℓ} {A : Type ℓ} where
   any p (x ∷ xs) = p x || any p xs
 
   -- nothing, or an element that passes and anything
-  abbrev pub nothingOr : (A → Bool) → List A → Bool
-  nothingOr p [] = true
-  nothingOr p (x ∷ xs) = p x
+  abbrev pub nothing_or : (A → Bool) → List A → Bool
+  nothing_or p [] = true
+  nothing_or p (x ∷ xs) = p x
 
   -- the elements that pass, in order
   abbrev pub select : (A → Bool) → List A → List A
@@ -36,21 +36,21 @@ module _ {ℓ} {A : Type ℓ} where
   joined (l ∷ ls) = l ++ joined ls
 
   -- where each begins, of lists that stand one behind another from `at`
-  abbrev pub offsetsFrom : ℕ → List (List A) → List ℕ
-  offsetsFrom at [] = []
-  offsetsFrom at (l ∷ ls) = at ∷ offsetsFrom (at + length l) ls
+  abbrev pub offsets_from : ℕ → List (List A) → List ℕ
+  offsets_from at [] = []
+  offsets_from at (l ∷ ls) = at ∷ offsets_from (at + length l) ls
 
   -- `eq x y` stands for equality
   -- the elements that no element before them equals: `before` holds those passed already
-  abbrev pub freshAfter : (A → A → Bool) → List A → List A → List A
-  freshAfter eq before [] = []
-  freshAfter eq before (x ∷ xs) =
-      let r = freshAfter eq (x ∷ before) xs in
+  abbrev pub fresh_after : (A → A → Bool) → List A → List A → List A
+  fresh_after eq before [] = []
+  fresh_after eq before (x ∷ xs) =
+      let r = fresh_after eq (x ∷ before) xs in
       cond (any (eq x) before) r (x ∷ r)
 
   -- the distinct elements in order of first sight
-  abbrev pub firstSeen : (A → A → Bool) → List A → List A
-  firstSeen eq xs = freshAfter eq [] xs
+  abbrev pub first_seen : (A → A → Bool) → List A → List A
+  first_seen eq xs = fresh_after eq [] xs
 
   -- how many elements stand before the first one that equals x: x's number, if it is there
   abbrev pub position_of : (A → A → Bool) → A → List A → ℕ
@@ -73,14 +73,14 @@ module _ {ℓ} {A : Type ℓ} where
   until p (x ∷ xs) = let r = x ∷ until p xs in cond (p x) [] r
 
   -- from the first element that does not pass
-  abbrev pub trimStart : (A → Bool) → List A → List A
-  trimStart p [] = []
-  trimStart p (x ∷ xs) = let r = trimStart p xs in cond (p x) r (x ∷ xs)
+  abbrev pub trim_start : (A → Bool) → List A → List A
+  trim_start p [] = []
+  trim_start p (x ∷ xs) = let r = trim_start p xs in cond (p x) r (x ∷ xs)
 
   -- up to the last element that does not pass
-  abbrev pub trimEnd : (A → Bool) → List A → List A
-  trimEnd p [] = []
-  trimEnd p (x ∷ xs) = let r = trimEnd p xs in cond (p x && empty r) [] (x ∷ r)
+  abbrev pub trim_end : (A → Bool) → List A → List A
+  trim_end p [] = []
+  trim_end p (x ∷ xs) = let r = trim_end p xs in cond (p x && empty r) [] (x ∷ r)
 
 -- the pieces that are not empty
 abbrev pub words : {A : Type 0} → (A → Bool) → List A → List (List A)
@@ -107,10 +107,10 @@ abbrev pub without : ℕ → List ℕ → Bool
 without s cs = all (λ c. not (is s c)) cs
 
 -- pieces with s between them
-abbrev pub joinWith : ℕ → List (List ℕ) → List ℕ
-joinWith s [] = []
-joinWith s (l ∷ []) = l
-joinWith s (l ∷ m ∷ ls) = l ++ (s ∷ joinWith s (m ∷ ls))
+abbrev pub join_with : ℕ → List (List ℕ) → List ℕ
+join_with s [] = []
+join_with s (l ∷ []) = l
+join_with s (l ∷ m ∷ ls) = l ++ (s ∷ join_with s (m ∷ ls))
 
 -- ---- distinct numbers below n are n at most
 

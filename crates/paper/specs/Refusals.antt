@@ -3,80 +3,80 @@
 -- Assumes nothing.
 use Rattle.std.specs.Prelude.{ℕ}
 
-abbrev pub roomShort : ℕ
-roomShort = 1  -- a reader's lent room is below its size
+abbrev pub room_short : ℕ
+room_short = 1  -- a reader's lent room is below its size
 
-abbrev pub textLong : ℕ
-textLong = 2  -- text over 65,536 bytes
+abbrev pub text_long : ℕ
+text_long = 2  -- text over 65,536 bytes
 
-abbrev pub textIllFormed : ℕ
-textIllFormed = 3  -- text not well-formed UTF-8
+abbrev pub text_ill_formed : ℕ
+text_ill_formed = 3  -- text not well-formed UTF-8
 
-abbrev pub rangeParts : ℕ
-rangeParts = 4  -- range field has three or more parts
+abbrev pub range_parts : ℕ
+range_parts = 4  -- range field has three or more parts
 
-abbrev pub boundUnreadable : ℕ
-boundUnreadable = 5  -- bound is no 16-bit hex number
+abbrev pub bound_unreadable : ℕ
+bound_unreadable = 5  -- bound is no 16-bit hex number
 
-abbrev pub boundMark : ℕ
-boundMark = 6  -- bound is FEFF or FFFE
+abbrev pub bound_mark : ℕ
+bound_mark = 6  -- bound is FEFF or FFFE
 
-abbrev pub categoryFields : ℕ
-categoryFields = 7  -- category line has not four fields
+abbrev pub category_fields : ℕ
+category_fields = 7  -- category line has not four fields
 
-abbrev pub categoryNumber : ℕ
-categoryNumber = 8  -- invoke, group or length is no u32
+abbrev pub category_number : ℕ
+category_number = 8  -- invoke, group or length is no u32
 
-abbrev pub rangesFull : ℕ
-rangesFull = 9  -- range 2,049
+abbrev pub ranges_full : ℕ
+ranges_full = 9  -- range 2,049
 
-abbrev pub referencesFull : ℕ
-referencesFull = 10  -- references would pass 8,192
+abbrev pub references_full : ℕ
+references_full = 10  -- references would pass 8,192
 
-abbrev pub categoryLinesFull : ℕ
-categoryLinesFull = 11  -- category line 513
+abbrev pub category_lines_full : ℕ
+category_lines_full = 11  -- category line 513
 
-abbrev pub categoriesFull : ℕ
-categoriesFull = 12  -- category 513
+abbrev pub categories_full : ℕ
+categories_full = 12  -- category 513
 
-abbrev pub nameBytesFull : ℕ
-nameBytesFull = 13  -- name bytes would pass 16,384
+abbrev pub name_bytes_full : ℕ
+name_bytes_full = 13  -- name bytes would pass 16,384
 
-abbrev pub notScalar : ℕ
-notScalar = 14  -- lookup of a number that is no scalar value
+abbrev pub not_scalar : ℕ
+not_scalar = 14  -- lookup of a number that is no scalar value
 
-abbrev pub numberUnknown : ℕ
-numberUnknown = 15  -- category, definition or unk entry number unknown
+abbrev pub number_unknown : ℕ
+number_unknown = 15  -- category, definition or unk entry number unknown
 
-abbrev pub flatRowLong : ℕ
-flatRowLong = 16  -- flat table asked for, a row has over 255 categories
+abbrev pub flat_row_long : ℕ
+flat_row_long = 16  -- flat table asked for, a row has over 255 categories
 
-abbrev pub tableRoomShort : ℕ
-tableRoomShort = 17  -- room for rows or flat table below the exact need
+abbrev pub table_room_short : ℕ
+table_room_short = 17  -- room for rows or flat table below the exact need
 
-abbrev pub packVersion : ℕ
-packVersion = 18  -- pack version is not 1
+abbrev pub pack_version : ℕ
+pack_version = 18  -- pack version is not 1
 
-abbrev pub packEnds : ℕ
-packEnds = 19  -- pack ends inside a field
+abbrev pub pack_ends : ℕ
+pack_ends = 19  -- pack ends inside a field
 
-abbrev pub packRule : ℕ
-packRule = 20  -- pack field breaks its rule
+abbrev pub pack_rule : ℕ
+pack_rule = 20  -- pack field breaks its rule
 
-abbrev pub packLeftOver : ℕ
-packLeftOver = 21  -- pad bit set or bytes left over
+abbrev pub pack_left_over : ℕ
+pack_left_over = 21  -- pad bit set or bytes left over
 
-abbrev pub packRoomShort : ℕ
-packRoomShort = 22  -- room for a written pack below its length
+abbrev pub pack_room_short : ℕ
+pack_room_short = 22  -- room for a written pack below its length
 
-abbrev pub unkFields : ℕ
-unkFields = 23  -- unk line has under four fields
+abbrev pub unk_fields : ℕ
+unk_fields = 23  -- unk line has under four fields
 
-abbrev pub unkNumber : ℕ
-unkNumber = 24  -- unk left, right or cost unreadable
+abbrev pub unk_number : ℕ
+unk_number = 24  -- unk left, right or cost unreadable
 
-abbrev pub unkEntriesFull : ℕ
-unkEntriesFull = 25  -- unk entry 4,097
+abbrev pub unk_entries_full : ℕ
+unk_entries_full = 25  -- unk entry 4,097
 
-abbrev pub tablesApart : ℕ
-tablesApart = 26  -- tables handed in don't hold together
+abbrev pub tables_apart : ℕ
+tables_apart = 26  -- tables handed in don't hold together

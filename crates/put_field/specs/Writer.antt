@@ -3,37 +3,37 @@
 use Rattle.std.specs.Prelude.{ℕ, ◌+◌, ◌*◌, ◌≤◌, ◌<◌, ◌≡◌, List, ◌++◌, T, length, take, drop}
 use Rattle.paper.specs.Lists.{all}
 use Rattle.paper.specs.Numbers.Bytes.{is_byte}
-use Rattle.paper.specs.Pack.Fields.{byteWidth, Field, bits, spell, bits_of}
+use Rattle.paper.specs.Pack.Fields.{byte_width, Field, bits, spell, bits_of}
 use Rattle.put_field.specs.declared.BitWriter.{BitWriter}
 
 -- the bit at which a writer stands
 abbrev pub place : BitWriter → ℕ
-place w = byteWidth * w.at + w.waiting
+place w = byte_width * w.at + w.waiting
 
 -- the bits that wait for their byte to be whole
-abbrev pub waitingBits : BitWriter → List ℕ
-waitingBits w = bits w.waiting w.held
+abbrev pub waiting_bits : BitWriter → List ℕ
+waiting_bits w = bits w.waiting w.held
 
 -- fewer bits wait than a byte has, and there is room for n more
 pub record Room (out : List ℕ) (w : BitWriter) (n : ℕ) : Type 0 where
-  pub few : w.waiting < byteWidth
-  pub room : place w + n ≤ byteWidth * length out
+  pub few : w.waiting < byte_width
+  pub room : place w + n ≤ byte_width * length out
 
 -- fields went from where w stands to where r stands: bytes into memory, and bits that wait
 pub record Writes (before : List ℕ) (w : BitWriter) (fs : List Field) (after : List ℕ) (r : BitWriter) : Type 0 where
   pub whole : List ℕ
-  pub are-bytes : T (all is_byte whole)
+  pub are_bytes : T (all is_byte whole)
   pub on : r.at ≡ w.at + length whole
   pub inside : r.at ≤ length before
   -- the bits that waited and the fields are the bits of those bytes and the bits that wait now
-  pub spelt : waitingBits w ++ spell fs ≡ bits_of whole ++ waitingBits r
+  pub spelt : waiting_bits w ++ spell fs ≡ bits_of whole ++ waiting_bits r
   -- and nothing else is changed
   pub memory : after ≡ take w.at before ++ (whole ++ drop r.at before)
 
 -- the same, where the fields are n bits wide
 pub record Puts (before : List ℕ) (w : BitWriter) (fs : List Field) (n : ℕ) (after : List ℕ) (r : BitWriter) : Type 0 where
   pub writes : Writes before w fs after r
-  pub few : r.waiting < byteWidth
+  pub few : r.waiting < byte_width
   pub moved : place r ≡ place w + n
   pub same_length : length after ≡ length before
 

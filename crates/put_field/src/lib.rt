@@ -1,6 +1,6 @@
 // Writes one field of a pack behind another, bit by bit, most significant bit first, into lent memory; and a run of bytes, each a field.
 ghost use Rattle.std.specs.Prelude.{◌≡◌, [], ◌∷◌, map, ◌+◌, ◌*◌, ◌≤◌, length, take, drop};
-ghost use Rattle.paper.specs.Pack.Fields.{field, byteWidth, lengthWidth};
+ghost use Rattle.paper.specs.Pack.Fields.{field, byte_width, length_width};
 ghost use Rattle.put_field.specs.Writer.{Room, Puts};
 
 use field::BYTE_WIDTH;
@@ -24,7 +24,7 @@ fn wide(x: u8) -> u64
 impl BitWriter {
     // A field behind the others: the low `width` bits of `value`. Bytes that are whole go to memory, the rest waits.
     pub fn put(self, out: &mut [u8], width: usize, value: u64) -> BitWriter
-        requires width_in_bounds { width ≤ lengthWidth }
+        requires width_in_bounds { width ≤ length_width }
         requires room { Room out.old self width }
         ensures { Puts out.old self (field width value ∷ []) width out.new result }
     {
@@ -51,8 +51,8 @@ impl BitWriter {
 // n bytes of the name store from a place on.
 pub fn put_bytes(from: BitWriter, out: &mut [u8], names: &[u8], first: usize, n: usize) -> BitWriter
     requires n_in_bounds { first + n ≤ length names.now }
-    requires room { Room out.old from (byteWidth * n) }
-    ensures { Puts out.old from (map (field byteWidth) (take n (drop first names.now))) (byteWidth * n) out.new result }
+    requires room { Room out.old from (byte_width * n) }
+    ensures { Puts out.old from (map (field byte_width) (take n (drop first names.now))) (byte_width * n) out.new result }
 {
     let mut w = from;
     let mut i = 0;

@@ -7,69 +7,69 @@ use mathlib.Core.List.{List, ◌++◌, map}
 use lib.Dec.{T}
 use lib.ListN.{length}
 use Rattle.paper.specs.Lists.{joined, sum}
-use Rattle.paper.specs.CharDef.Reading.{Reading, nameBytes, references}
-use Rattle.paper.specs.Pack.Fields.{nameLengthWidth, byteWidth, numberWidth, headWidth, definitionWidth, rangeWidth}
-use Rattle.paper.specs.Pack.Fields.{head, nameFields, definitionFields, rangeFields, packFields}
-use Rattle.paper.specs.Tables.Layout.{Tables, countsOf, definitionSize, rangeSlotSize, definitionOf, slot_of, pieces, split, ranging}
-use Rattle.paper.specs.Computed.HandedIn.{nameSlotsIn, namesIn, slotsIn, numbersIn, decoded, holds}
+use Rattle.paper.specs.CharDef.Reading.{Reading, name_bytes, references}
+use Rattle.paper.specs.Pack.Fields.{name_length_width, byte_width, number_width, head_width, definition_width, range_width}
+use Rattle.paper.specs.Pack.Fields.{head, name_fields, definition_fields, range_fields, pack_fields}
+use Rattle.paper.specs.Tables.Layout.{Tables, counts_of, definition_size, range_slot_size, definition_of, slot_of, pieces, split, ranging}
+use Rattle.paper.specs.Computed.HandedIn.{name_slots_in, names_in, slots_in, numbers_in, decoded, holds}
 use Rattle.paper.specs.declared.Counts.{Counts}
-use Rattle.paper.proofs.Tables.Trip.{Enough, parts, names-lens, ranges-counts, counts-are}
+use Rattle.paper.proofs.Tables.Trip.{Enough, parts, names_lens, ranges_counts, counts_are}
 use Rattle.put_field.specs.declared.BitWriter.{BitWriter}
 use Rattle.put_field.specs.Writer.{start, Puts}
-use Rattle.put_ranges.specs.Ranges.{countsIn, numbersFrom, allNumbers}
-use Rattle.put_parts.specs.Parts.{lengthsIn, head_of, packWidth}
-use Rattle.put_field.proofs.Writing.{puts-both, puts-are}
+use Rattle.put_ranges.specs.Ranges.{counts_in, numbers_from, all_numbers}
+use Rattle.put_parts.specs.Parts.{lengths_in, head_of, pack_width}
+use Rattle.put_field.proofs.Writing.{puts_both, puts_are}
 
 -- what the loops ask
 pub record Asked (t : Tables) (n : Counts) : Type 0 where
   pub long : Enough (length t.names) (length t.categories) (length t.definitions) (length t.ranges) (length t.references) n
-  pub lengths-sum : sum (lengthsIn n.categories t.categories) ≡ n.bytes
-  pub counts-sum : sum (countsIn n.ranges t.ranges) ≡ n.references
+  pub lengths_sum : sum (lengths_in n.categories t.categories) ≡ n.bytes
+  pub counts_sum : sum (counts_in n.ranges t.ranges) ≡ n.references
 
 pub asked : (t : Tables) (n : Counts) → T (holds t n) → Asked t n
-unfolding lengthsIn countsIn nameSlotsIn slotsIn decoded countsOf nameBytes references
+unfolding lengths_in counts_in name_slots_in slots_in decoded counts_of name_bytes references
 asked t n u =
     let h = parts t n u in
-    let e = counts-are t n h in
+    let e = counts_are t n h in
     record {
       long = h.long;
-      lengths-sum = sym (ap sum (names-lens t n h)) ∙ ap (λ m. m.bytes) e;
-      counts-sum = sym (ap sum (ranges-counts t n h)) ∙ ap (λ m. m.references) e;
+      lengths_sum = sym (ap sum (names_lens t n h)) ∙ ap (λ m. m.bytes) e;
+      counts_sum = sym (ap sum (ranges_counts t n h)) ∙ ap (λ m. m.references) e;
     }
 
 -- ---- the fields are the reading's
 
-head-is : (r : Reading) (n : Counts) → countsOf r ≡ n → head_of n ≡ head r
-unfolding countsOf head_of head
-head-is r n e = ap head_of (sym e)
+head_is : (r : Reading) (n : Counts) → counts_of r ≡ n → head_of n ≡ head r
+unfolding counts_of head_of head
+head_is r n e = ap head_of (sym e)
 
-fields-are : (t : Tables) (n : Counts) → T (holds t n)
+fields_are : (t : Tables) (n : Counts) → T (holds t n)
     → head_of n
-    ++ (joined (map nameFields (split (lengthsIn n.categories t.categories) t.names))
-    ++ (joined (map definitionFields (map definitionOf (pieces definitionSize n.definitions t.definitions)))
-    ++ joined (map rangeFields (ranging (map slot_of (pieces rangeSlotSize n.ranges t.ranges)) (allNumbers n.ranges t.ranges t.references)))))
-    ≡ packFields (decoded t n)
-unfolding packFields decoded namesIn nameSlotsIn slotsIn numbersIn lengthsIn numbersFrom
-fields-are t n u =
+    ++ (joined (map name_fields (split (lengths_in n.categories t.categories) t.names))
+    ++ (joined (map definition_fields (map definition_of (pieces definition_size n.definitions t.definitions)))
+    ++ joined (map range_fields (ranging (map slot_of (pieces range_slot_size n.ranges t.ranges)) (all_numbers n.ranges t.ranges t.references)))))
+    ≡ pack_fields (decoded t n)
+unfolding pack_fields decoded names_in name_slots_in slots_in numbers_in lengths_in numbers_from
+fields_are t n u =
     let a = asked t n u in
     ap₂ (λ h m. h
-    ++ (joined (map nameFields (split (lengthsIn n.categories t.categories) t.names))
-    ++ (joined (map definitionFields (map definitionOf (pieces definitionSize n.definitions t.definitions)))
-    ++ joined (map rangeFields (ranging (map slot_of (pieces rangeSlotSize n.ranges t.ranges)) (numbersFrom 0 m t.references))))))
-    (head-is (decoded t n) n (counts-are t n (parts t n u)))
-    a.counts-sum
+    ++ (joined (map name_fields (split (lengths_in n.categories t.categories) t.names))
+    ++ (joined (map definition_fields (map definition_of (pieces definition_size n.definitions t.definitions)))
+    ++ joined (map range_fields (ranging (map slot_of (pieces range_slot_size n.ranges t.ranges)) (numbers_from 0 m t.references))))))
+    (head_is (decoded t n) n (counts_are t n (parts t n u)))
+    a.counts_sum
 
 -- head, names, definitions and ranges, put one behind another
-pub fields-put : (t : Tables) (n : Counts) → T (holds t n) → {lent a b c after : List ℕ} {u v w r : BitWriter}
-    → Puts lent start (head_of n) headWidth a u
-    → Puts a u (joined (map nameFields (split (lengthsIn n.categories t.categories) t.names)))
-    (nameLengthWidth * n.categories + byteWidth * sum (lengthsIn n.categories t.categories)) b v
-    → Puts b v (joined (map definitionFields (map definitionOf (pieces definitionSize n.definitions t.definitions)))) (definitionWidth * n.definitions) c w
-    → Puts c w (joined (map rangeFields (ranging (map slot_of (pieces rangeSlotSize n.ranges t.ranges)) (allNumbers n.ranges t.ranges t.references))))
-    (rangeWidth * n.ranges + numberWidth * sum (countsIn n.ranges t.ranges)) after r
-    → Puts lent start (packFields (decoded t n)) (packWidth n) after r
-fields-put t n h x y z k =
+pub fields_put : (t : Tables) (n : Counts) → T (holds t n) → {lent a b c after : List ℕ} {u v w r : BitWriter}
+    → Puts lent start (head_of n) head_width a u
+    → Puts a u (joined (map name_fields (split (lengths_in n.categories t.categories) t.names)))
+    (name_length_width * n.categories + byte_width * sum (lengths_in n.categories t.categories)) b v
+    → Puts b v (joined (map definition_fields (map definition_of (pieces definition_size n.definitions t.definitions)))) (definition_width * n.definitions) c w
+    → Puts c w (joined (map range_fields (ranging (map slot_of (pieces range_slot_size n.ranges t.ranges)) (all_numbers n.ranges t.ranges t.references))))
+    (range_width * n.ranges + number_width * sum (counts_in n.ranges t.ranges)) after r
+    → Puts lent start (pack_fields (decoded t n)) (pack_width n) after r
+fields_put t n h x y z k =
     let a = asked t n h in
-    let s = a.lengths-sum in
-    let m = a.counts-sum in
-    puts-are (puts-both x (puts-both y (puts-both z k))) (fields-are t n h) (omega arith)
+    let s = a.lengths_sum in
+    let m = a.counts_sum in
+    puts_are (puts_both x (puts_both y (puts_both z k))) (fields_are t n h) (omega arith)

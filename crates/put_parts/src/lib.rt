@@ -1,11 +1,11 @@
 // Writes the parts of a pack from the tables that it is made of, one behind another: the head, the names, the definitions and the ranges.
 ghost use Rattle.std.specs.Prelude.{◌≡◌, map, ◌+◌, ◌*◌, ◌≤◌, ◌<◌, T, eqb, length, get_or, take, drop};
 ghost use Rattle.paper.specs.Lists.{joined, sum};
-ghost use Rattle.paper.specs.Pack.Fields.{flag, byteWidth, nameLengthWidth, headWidth, definitionWidth, nameFields, definitionFields, packFields};
-ghost use Rattle.paper.specs.Tables.Layout.{nameSlotSize, definitionSize, definitionOf, pieces, split};
+ghost use Rattle.paper.specs.Pack.Fields.{flag, byte_width, name_length_width, head_width, definition_width, name_fields, definition_fields, pack_fields};
+ghost use Rattle.paper.specs.Tables.Layout.{name_slot_size, definition_size, definition_of, pieces, split};
 ghost use Rattle.paper.specs.Computed.HandedIn.{decoded, holds};
 ghost use Rattle.put_field.specs.Writer.{Room, Puts, start};
-ghost use Rattle.put_parts.specs.Parts.{lengthsIn, head_of, packWidth};
+ghost use Rattle.put_parts.specs.Parts.{lengths_in, head_of, pack_width};
 
 use field::{
     CATEGORIES_WIDTH, FLAG_WIDTH, LENGTH_WIDTH, LINES_WIDTH, NAME_LENGTH_WIDTH, RANGES_WIDTH,
@@ -19,8 +19,8 @@ const VERSION: u64 = 1;
 
 // The head, at the start of the room.
 fn put_head(out: &mut [u8], counts: Counts) -> BitWriter
-    requires { Room out.old start headWidth }
-    ensures { Puts out.old start (head_of counts) headWidth out.new result }
+    requires { Room out.old start head_width }
+    ensures { Puts out.old start (head_of counts) head_width out.new result }
 {
     let first = BitWriter {
         at: 0,
@@ -37,8 +37,8 @@ fn put_head(out: &mut [u8], counts: Counts) -> BitWriter
 // A name: "length 15, then its bytes".
 fn put_name(from: BitWriter, out: &mut [u8], names: &[u8], first: usize, n: usize) -> BitWriter
     requires n_in_bounds { first + n ≤ length names.now }
-    requires room { Room out.old from (nameLengthWidth + byteWidth * n) }
-    ensures { Puts out.old from (nameFields (take n (drop first names.now))) (nameLengthWidth + byteWidth * n) out.new result }
+    requires room { Room out.old from (name_length_width + byte_width * n) }
+    ensures { Puts out.old from (name_fields (take n (drop first names.now))) (name_length_width + byte_width * n) out.new result }
 {
     let second = from.put(out, NAME_LENGTH_WIDTH, n as u64);
     put_field::put_bytes(second, out, names, first, n)
@@ -52,10 +52,10 @@ fn put_names(
     categories: &[u8],
     n: usize,
 ) -> BitWriter
-    requires n_in_bounds { nameSlotSize * n ≤ length categories.now }
-    requires categories_in_bounds { sum (lengthsIn n categories.now) ≤ length names.now }
-    requires room { Room out.old from (nameLengthWidth * n + byteWidth * sum (lengthsIn n categories.now)) }
-    ensures { Puts out.old from (joined (map nameFields (split (lengthsIn n categories.now) names.now))) (nameLengthWidth * n + byteWidth * sum (lengthsIn n categories.now)) out.new result }
+    requires n_in_bounds { name_slot_size * n ≤ length categories.now }
+    requires categories_in_bounds { sum (lengths_in n categories.now) ≤ length names.now }
+    requires room { Room out.old from (name_length_width * n + byte_width * sum (lengths_in n categories.now)) }
+    ensures { Puts out.old from (joined (map name_fields (split (lengths_in n categories.now) names.now))) (name_length_width * n + byte_width * sum (lengths_in n categories.now)) out.new result }
 {
     let mut w = from;
     let mut at = 0;
@@ -82,9 +82,9 @@ fn flag_at(definitions: &[u8], at: usize) -> u64
 
 // Definition i: "invoke 1, group 1, length 32".
 fn put_definition(from: BitWriter, out: &mut [u8], definitions: &[u8], i: usize) -> BitWriter
-    requires definition_size_in_bounds { definitionSize * i + definitionSize ≤ length definitions.now }
-    requires room { Room out.old from definitionWidth }
-    ensures { Puts out.old from (definitionFields (definitionOf (take definitionSize (drop (definitionSize * i) definitions.now)))) definitionWidth out.new result }
+    requires definition_size_in_bounds { definition_size * i + definition_size ≤ length definitions.now }
+    requires room { Room out.old from definition_width }
+    ensures { Puts out.old from (definition_fields (definition_of (take definition_size (drop (definition_size * i) definitions.now)))) definition_width out.new result }
 {
     let at = DEFINITION_BYTES * i;
     let invoke = flag_at(definitions, at + INVOKE_AT);
@@ -97,9 +97,9 @@ fn put_definition(from: BitWriter, out: &mut [u8], definitions: &[u8], i: usize)
 
 // The definitions, in the order of the table.
 fn put_definitions(from: BitWriter, out: &mut [u8], definitions: &[u8], n: usize) -> BitWriter
-    requires n_in_bounds { definitionSize * n ≤ length definitions.now }
-    requires room { Room out.old from (definitionWidth * n) }
-    ensures { Puts out.old from (joined (map definitionFields (map definitionOf (pieces definitionSize n definitions.now)))) (definitionWidth * n) out.new result }
+    requires n_in_bounds { definition_size * n ≤ length definitions.now }
+    requires room { Room out.old from (definition_width * n) }
+    ensures { Puts out.old from (joined (map definition_fields (map definition_of (pieces definition_size n definitions.now)))) (definition_width * n) out.new result }
 {
     let mut w = from;
     let mut i = 0;
@@ -121,8 +121,8 @@ pub fn put_fields<'a>(
     counts: Counts,
 ) -> BitWriter
     requires t { T (holds (record { names = names.now; categories = categories.now; definitions = definitions.now; ranges = ranges.now; references = references.now }) counts) }
-    requires room { Room out.old start (packWidth counts) }
-    ensures { Puts out.old start (packFields (decoded (record { names = names.entry.now; categories = categories.now; definitions = definitions.now; ranges = ranges.now; references = references.now }) counts)) (packWidth counts) out.new result }
+    requires room { Room out.old start (pack_width counts) }
+    ensures { Puts out.old start (pack_fields (decoded (record { names = names.entry.now; categories = categories.now; definitions = definitions.now; ranges = ranges.now; references = references.now }) counts)) (pack_width counts) out.new result }
 {
     let head = put_head(out, counts);
     let named = put_names(head, out, names, categories, counts.categories);

@@ -1,10 +1,10 @@
 // Writes the ranges of a pack from their two tables, each with its references behind it.
 ghost use Rattle.std.specs.Prelude.{[], ◌∷◌, map, ◌+◌, ◌*◌, ◌≤◌, length};
 ghost use Rattle.paper.specs.Lists.{joined, sum};
-ghost use Rattle.paper.specs.Pack.Fields.{field, boundWidth, countWidth, numberWidth, rangeWidth, rangeFields};
-ghost use Rattle.paper.specs.Tables.Layout.{rangeSlotSize, referenceSize, slot_of, pieces, ranging};
+ghost use Rattle.paper.specs.Pack.Fields.{field, bound_width, count_width, number_width, range_width, range_fields};
+ghost use Rattle.paper.specs.Tables.Layout.{range_slot_size, reference_size, slot_of, pieces, ranging};
 ghost use Rattle.put_field.specs.Writer.{Room, Puts};
-ghost use Rattle.put_ranges.specs.Ranges.{countsIn, numbersFrom, allNumbers};
+ghost use Rattle.put_ranges.specs.Ranges.{counts_in, numbers_from, all_numbers};
 
 use field::{BOUND_WIDTH, COUNT_WIDTH, NUMBER_WIDTH};
 use put_field::BitWriter;
@@ -12,8 +12,8 @@ use table::{COUNT_AT, RANGE_BYTES, REFERENCE_BYTES, UPPER_AT};
 
 // A range's bounds and count: "lower 16, upper 16, count 14".
 fn put_bounds(from: BitWriter, out: &mut [u8], lower: u16, upper: u16, count: u16) -> BitWriter
-    requires { Room out.old from rangeWidth }
-    ensures { Puts out.old from (field boundWidth lower ∷ field boundWidth upper ∷ field countWidth count ∷ []) rangeWidth out.new result }
+    requires { Room out.old from range_width }
+    ensures { Puts out.old from (field bound_width lower ∷ field bound_width upper ∷ field count_width count ∷ []) range_width out.new result }
 {
     let second = from.put(out, BOUND_WIDTH, lower as u64);
     let third = second.put(out, BOUND_WIDTH, upper as u64);
@@ -28,9 +28,9 @@ fn put_references(
     first: usize,
     n: usize,
 ) -> BitWriter
-    requires n_in_bounds { referenceSize * (first + n) ≤ length references.now }
-    requires room { Room out.old from (numberWidth * n) }
-    ensures { Puts out.old from (map (field numberWidth) (numbersFrom first n references.now)) (numberWidth * n) out.new result }
+    requires n_in_bounds { reference_size * (first + n) ≤ length references.now }
+    requires room { Room out.old from (number_width * n) }
+    ensures { Puts out.old from (map (field number_width) (numbers_from first n references.now)) (number_width * n) out.new result }
 {
     let mut w = from;
     let mut i = 0;
@@ -50,10 +50,10 @@ pub fn put_ranges(
     references: &[u8],
     n: usize,
 ) -> BitWriter
-    requires n_in_bounds { rangeSlotSize * n ≤ length ranges.now }
-    requires ranges_in_bounds { referenceSize * sum (countsIn n ranges.now) ≤ length references.now }
-    requires room { Room out.old from (rangeWidth * n + numberWidth * sum (countsIn n ranges.now)) }
-    ensures { Puts out.old from (joined (map rangeFields (ranging (map slot_of (pieces rangeSlotSize n ranges.now)) (allNumbers n ranges.now references.now)))) (rangeWidth * n + numberWidth * sum (countsIn n ranges.now)) out.new result }
+    requires n_in_bounds { range_slot_size * n ≤ length ranges.now }
+    requires ranges_in_bounds { reference_size * sum (counts_in n ranges.now) ≤ length references.now }
+    requires room { Room out.old from (range_width * n + number_width * sum (counts_in n ranges.now)) }
+    ensures { Puts out.old from (joined (map range_fields (ranging (map slot_of (pieces range_slot_size n ranges.now)) (all_numbers n ranges.now references.now)))) (range_width * n + number_width * sum (counts_in n ranges.now)) out.new result }
 {
     let mut w = from;
     let mut used = 0;

@@ -6,63 +6,63 @@ use mathlib.Core.Bool.{Bool, true, false, not}
 use mathlib.Core.List.{List}
 use lib.ListN.{length, take}
 use lib.Seq.{length-take-le}
-use Rattle.paper.specs.Sizes.{maxCategories, maxNameBytes, maxCategoryLines, maxRanges, maxReferences}
-use Rattle.paper.specs.Tables.Layout.{Tables, inRoom, nameSlotSize, definitionSize, rangeSlotSize, referenceSize}
+use Rattle.paper.specs.Sizes.{max_categories, max_name_bytes, max_category_lines, max_ranges, max_references}
+use Rattle.paper.specs.Tables.Layout.{Tables, in_room, name_slot_size, definition_size, range_slot_size, reference_size}
 use Rattle.paper.specs.Tables.Lent.{zeroed}
-use Rattle.paper.proofs.Tables.Trip.{tables-is}
-use Rattle.paper.specs.Tables.Reader.{room_for, hasRoom, cleared}
-use Rattle.room.specs.Sized.{Sized, noTables}
-use Rattle.room.proofs.Five.{Room, longEnough, room-is, having, zero-padded}
+use Rattle.paper.proofs.Tables.Trip.{tables_is}
+use Rattle.paper.specs.Tables.Reader.{room_for, has_room, cleared}
+use Rattle.room.specs.Sized.{Sized, no_tables}
+use Rattle.room.proofs.Five.{Room, long_enough, room_is, having, zero_padded}
 
 -- ---- refusal 1
 
-pub room-asked : (a b c d e : ℕ) → room_for a b c d e
-    ≡ longEnough maxNameBytes (nameSlotSize * maxCategories) (definitionSize * maxCategoryLines) (rangeSlotSize * maxRanges) (referenceSize * maxReferences) a b c d e
-unfolding room_for longEnough
-room-asked a b c d e = refl
+pub room_asked : (a b c d e : ℕ) → room_for a b c d e
+    ≡ long_enough max_name_bytes (name_slot_size * max_categories) (definition_size * max_category_lines) (range_slot_size * max_ranges) (reference_size * max_references) a b c d e
+unfolding room_for long_enough
+room_asked a b c d e = refl
 
 abbrev pub RoomIn : Tables → Type 0
 RoomIn t =
-    Room maxNameBytes (nameSlotSize * maxCategories) (definitionSize * maxCategoryLines) (rangeSlotSize * maxRanges) (referenceSize * maxReferences)
+    Room max_name_bytes (name_slot_size * max_categories) (definition_size * max_category_lines) (range_slot_size * max_ranges) (reference_size * max_references)
     (length t.names) (length t.categories) (length t.definitions) (length t.ranges) (length t.references)
 
-pub room_in : (t : Tables) → true ≡ hasRoom t → RoomIn t
-room_in t h = room-is (room-asked _ _ _ _ _) h
+pub room_in : (t : Tables) → true ≡ has_room t → RoomIn t
+room_in t h = room_is (room_asked _ _ _ _ _) h
 
-pub roomy : (t : Tables) {x : Bool} → x ≡ hasRoom t → not x ≡ false → RoomIn t
-roomy t h n = room_in t (having (hasRoom t) h n)
+pub roomy : (t : Tables) {x : Bool} → x ≡ has_room t → not x ≡ false → RoomIn t
+roomy t h n = room_in t (having (has_room t) h n)
 
 -- ---- parts of the sizes
 
-pub parts-sized : (t : Tables) → RoomIn t
+pub parts_sized : (t : Tables) → RoomIn t
     → Sized (record {
-      names = take maxNameBytes t.names;
-      categories = take (nameSlotSize * maxCategories) t.categories;
-      definitions = take (definitionSize * maxCategoryLines) t.definitions;
-      ranges = take (rangeSlotSize * maxRanges) t.ranges;
-      references = take (referenceSize * maxReferences) t.references;
+      names = take max_name_bytes t.names;
+      categories = take (name_slot_size * max_categories) t.categories;
+      definitions = take (definition_size * max_category_lines) t.definitions;
+      ranges = take (range_slot_size * max_ranges) t.ranges;
+      references = take (reference_size * max_references) t.references;
     })
-parts-sized t h =
+parts_sized t h =
     record {
-      names = length-take-le maxNameBytes t.names h.first;
-      categories = length-take-le (nameSlotSize * maxCategories) t.categories h.second;
-      definitions = length-take-le (definitionSize * maxCategoryLines) t.definitions h.third;
-      ranges = length-take-le (rangeSlotSize * maxRanges) t.ranges h.fourth;
-      references = length-take-le (referenceSize * maxReferences) t.references h.fifth;
+      names = length-take-le max_name_bytes t.names h.first;
+      categories = length-take-le (name_slot_size * max_categories) t.categories h.second;
+      definitions = length-take-le (definition_size * max_category_lines) t.definitions h.third;
+      ranges = length-take-le (range_slot_size * max_ranges) t.ranges h.fourth;
+      references = length-take-le (reference_size * max_references) t.references h.fifth;
     }
 
 -- ---- zero in every place
 
-pub cleared-sized : (t : Tables) → Sized t → cleared t ≡ inRoom noTables
-unfolding cleared inRoom noTables
-cleared-sized t z =
-    tables-is (inRoom noTables) _ _ _ _ _ (zero-padded maxNameBytes t.names z.names) (zero-padded (nameSlotSize * maxCategories) t.categories z.categories)
-    (zero-padded (definitionSize * maxCategoryLines) t.definitions z.definitions) (zero-padded (rangeSlotSize * maxRanges) t.ranges z.ranges)
-    (zero-padded (referenceSize * maxReferences) t.references z.references)
+pub cleared_sized : (t : Tables) → Sized t → cleared t ≡ in_room no_tables
+unfolding cleared in_room no_tables
+cleared_sized t z =
+    tables_is (in_room no_tables) _ _ _ _ _ (zero_padded max_name_bytes t.names z.names) (zero_padded (name_slot_size * max_categories) t.categories z.categories)
+    (zero_padded (definition_size * max_category_lines) t.definitions z.definitions) (zero_padded (range_slot_size * max_ranges) t.ranges z.ranges)
+    (zero_padded (reference_size * max_references) t.references z.references)
 
-pub clear-each : (t : Tables) (a b c d e : List ℕ)
-    → a ≡ zeroed maxNameBytes t.names → b ≡ zeroed (nameSlotSize * maxCategories) t.categories → c ≡ zeroed (definitionSize * maxCategoryLines) t.definitions
-    → d ≡ zeroed (rangeSlotSize * maxRanges) t.ranges → e ≡ zeroed (referenceSize * maxReferences) t.references
+pub clear_each : (t : Tables) (a b c d e : List ℕ)
+    → a ≡ zeroed max_name_bytes t.names → b ≡ zeroed (name_slot_size * max_categories) t.categories → c ≡ zeroed (definition_size * max_category_lines) t.definitions
+    → d ≡ zeroed (range_slot_size * max_ranges) t.ranges → e ≡ zeroed (reference_size * max_references) t.references
     → record { names = a; categories = b; definitions = c; ranges = d; references = e } ≡ cleared t
 unfolding cleared
-clear-each t a b c d e p q r s u = tables-is (cleared t) a b c d e p q r s u
+clear_each t a b c d e p q r s u = tables_is (cleared t) a b c d e p q r s u

@@ -5,36 +5,36 @@ use mathlib.Core.Path.{◌≡◌, refl, sym, ap, ◌∙◌}
 use mathlib.Core.Bool.{true, false, cond}
 use mathlib.Core.List.{◌++◌}
 use lib.ListN.{drop}
-use Rattle.paper.specs.Sizes.{maxCategories, maxNameBytes, maxCategoryLines, maxRanges, maxReferences}
-use Rattle.paper.specs.Refusals.{roomShort}
+use Rattle.paper.specs.Sizes.{max_categories, max_name_bytes, max_category_lines, max_ranges, max_references}
+use Rattle.paper.specs.Refusals.{room_short}
 use Rattle.paper.specs.CharDef.Reading.{Answer, accepted, refused}
-use Rattle.paper.specs.Tables.Layout.{Tables, inRoom, behind, nameSlotSize, definitionSize, rangeSlotSize, referenceSize}
-use Rattle.paper.specs.Tables.Reader.{hasRoom, inLent, given, clears, past, cleared, leaves, Reads}
+use Rattle.paper.specs.Tables.Layout.{Tables, in_room, behind, name_slot_size, definition_size, range_slot_size, reference_size}
+use Rattle.paper.specs.Tables.Reader.{has_room, in_lent, given, clears, past, cleared, leaves, Reads}
 use Rattle.paper.specs.declared.Outcome.{Outcome}
 use Rattle.paper.specs.declared.Outcome.TheVariants.{Accepted, Refused}
-use Rattle.paper.proofs.Tables.Trip.{tables-is}
-use Rattle.room.specs.Sized.{noTables, ReadInto}
-use Rattle.room.proofs.Five.{zero-past}
+use Rattle.paper.proofs.Tables.Trip.{tables_is}
+use Rattle.room.specs.Sized.{no_tables, ReadInto}
+use Rattle.room.proofs.Five.{zero_past}
 use Rattle.room.proofs.Sizes.{RoomIn, room_in}
 
-cleared-is : (t : Tables) → RoomIn t → behind (inRoom noTables) (past t) ≡ cleared t
-unfolding behind inRoom noTables past cleared
-cleared-is t h =
-    tables-is (cleared t) _ _ _ _ _ (zero-past maxNameBytes t.names h.first) (zero-past (nameSlotSize * maxCategories) t.categories h.second)
-    (zero-past (definitionSize * maxCategoryLines) t.definitions h.third) (zero-past (rangeSlotSize * maxRanges) t.ranges h.fourth)
-    (zero-past (referenceSize * maxReferences) t.references h.fifth)
+cleared_is : (t : Tables) → RoomIn t → behind (in_room no_tables) (past t) ≡ cleared t
+unfolding behind in_room no_tables past cleared
+cleared_is t h =
+    tables_is (cleared t) _ _ _ _ _ (zero_past max_name_bytes t.names h.first) (zero_past (name_slot_size * max_categories) t.categories h.second)
+    (zero_past (definition_size * max_category_lines) t.definitions h.third) (zero_past (range_slot_size * max_ranges) t.ranges h.fourth)
+    (zero_past (reference_size * max_references) t.references h.fifth)
 
 module _ (a : Answer) (t : Tables) where
-  pub short-answer : hasRoom t ≡ false → inLent t a ≡ refused roomShort 0
-  unfolding inLent
-  short-answer e = ap (λ b. cond b a (refused roomShort 0)) e
+  pub short_answer : has_room t ≡ false → in_lent t a ≡ refused room_short 0
+  unfolding in_lent
+  short_answer e = ap (λ b. cond b a (refused room_short 0)) e
 
-  pub has-answer : hasRoom t ≡ true → inLent t a ≡ a
-  unfolding inLent
-  has-answer e = ap (λ b. cond b a (refused roomShort 0)) e
+  pub has_answer : has_room t ≡ true → in_lent t a ≡ a
+  unfolding in_lent
+  has_answer e = ap (λ b. cond b a (refused room_short 0)) e
 
   -- a refusal that leaves memory as it was
-  unchanged : (n place : ℕ) → inLent t a ≡ refused n place → clears n ≡ false → Reads a t t (Refused (record { number = n; place = place }))
+  unchanged : (n place : ℕ) → in_lent t a ≡ refused n place → clears n ≡ false → Reads a t t (Refused (record { number = n; place = place }))
   unfolding leaves
   unchanged n place e h =
       record {
@@ -42,28 +42,28 @@ module _ (a : Answer) (t : Tables) where
         memory = sym (ap (λ x. leaves x t) e ∙ ap (λ b. cond b (cleared t) t) h);
       }
 
-  pub short-room : false ≡ hasRoom t → Reads a t t (Refused (record { number = roomShort; place = 0 }))
+  pub short_room : false ≡ has_room t → Reads a t t (Refused (record { number = room_short; place = 0 }))
   unfolding clears
-  short-room e = unchanged roomShort 0 (short-answer (sym e)) refl
+  short_room e = unchanged room_short 0 (short_answer (sym e)) refl
 
-  module _ (room : true ≡ hasRoom t) where
+  module _ (room : true ≡ has_room t) where
     pub nothing_written : (n place : ℕ) → a ≡ refused n place → clears n ≡ false → Reads a t t (Refused (record { number = n; place = place }))
-    nothing_written n place e h = unchanged n place (has-answer (sym room) ∙ e) h
+    nothing_written n place e h = unchanged n place (has_answer (sym room) ∙ e) h
 
     into : ((n place : ℕ) → a ≡ refused n place → clears n ≡ true) → (part after : Tables) → after ≡ behind part (past t)
         → (r : Outcome) → ReadInto a part r → Reads a t after r
     unfolding leaves
     into k part after e (Accepted n) z =
-        let i : inLent t a ≡ accepted z.reading = has-answer (sym room) ∙ z.is in
+        let i : in_lent t a ≡ accepted z.reading = has_answer (sym room) ∙ z.is in
         record {
           answer = ap Accepted z.counts ∙ ap given (sym i);
           memory = e ∙ ap (λ x. behind x (past t)) z.tables ∙ ap (λ x. leaves x t) (sym i);
         }
     into k part after e (Refused x) z =
-        let i : inLent t a ≡ refused x.number x.place = has-answer (sym room) ∙ z.is in
+        let i : in_lent t a ≡ refused x.number x.place = has_answer (sym room) ∙ z.is in
         record {
           answer = ap given (sym i);
-          memory = e ∙ ap (λ y. behind y (past t)) z.tables ∙ cleared-is t (room_in t room)
+          memory = e ∙ ap (λ y. behind y (past t)) z.tables ∙ cleared_is t (room_in t room)
               ∙ sym (ap (λ y. leaves y t) i ∙ ap (λ b. cond b (cleared t) t) (k x.number x.place z.is));
         }
 
@@ -71,11 +71,11 @@ module _ (a : Answer) (t : Tables) where
     pub reads : ((n place : ℕ) → a ≡ refused n place → clears n ≡ true) → (part : Tables) (r : Outcome) → ReadInto a part r
         → Reads a t
         (record {
-          names = part.names ++ drop maxNameBytes t.names;
-          categories = part.categories ++ drop (nameSlotSize * maxCategories) t.categories;
-          definitions = part.definitions ++ drop (definitionSize * maxCategoryLines) t.definitions;
-          ranges = part.ranges ++ drop (rangeSlotSize * maxRanges) t.ranges;
-          references = part.references ++ drop (referenceSize * maxReferences) t.references;
+          names = part.names ++ drop max_name_bytes t.names;
+          categories = part.categories ++ drop (name_slot_size * max_categories) t.categories;
+          definitions = part.definitions ++ drop (definition_size * max_category_lines) t.definitions;
+          ranges = part.ranges ++ drop (range_slot_size * max_ranges) t.ranges;
+          references = part.references ++ drop (reference_size * max_references) t.references;
         }) r
     unfolding behind past
     reads k part r z = into k part (behind part (past t)) refl r z

@@ -10,104 +10,104 @@ use lib.Dec.{leb, ltb, eqb, eqb→eq}
 use lib.ListN.{length, set, replicate, length-append}
 use lib.Seq.{set-append_seam}
 use borrow.Author.Tests.{lt-ltb}
-use Rattle.paper.specs.Lists.{any, select, joined, firstSeen, position_of, same}
-use Rattle.paper.specs.Text.Scalar.{utf8, utf8Of}
+use Rattle.paper.specs.Lists.{any, select, joined, first_seen, position_of, same}
+use Rattle.paper.specs.Text.Scalar.{utf8, utf8_of}
 use Rattle.paper.specs.CharDef.Reading.{Reading}
-use Rattle.paper.specs.Rows.Covering.{rangeHolds, covers, named, default, defaults, or_else, categoriesAt}
-use Rattle.paper.proofs.Lists.Seen.{seen-snoc}
+use Rattle.paper.specs.Rows.Covering.{range_holds, covers, named, default, defaults, or_else, categories_at}
+use Rattle.paper.proofs.Lists.Seen.{seen_snoc}
 use Rattle.rust.specs.Text.{ok, panics, Str, contains, get, equal}
 use Rattle.rust.specs.CharDef.{CharRange, Builder}
-use Rattle.rust.specs.Rows.{defaultCategoryName, pushNew, pushRanges, pushDefault, lookupCategories, placeNames, categoryNamesOf}
-use Rattle.rust.specs.Agrees.{numberedFrom, rangeIn, Agrees}
-use Rattle.rust.proofs.Names.{get-numbered, any-utf8, position-utf8, numbered-length}
+use Rattle.rust.specs.Rows.{default_category_name, push_new, push_ranges, push_default, lookup_categories, place_names, category_names_of}
+use Rattle.rust.specs.Agrees.{numbered_from, range_in, Agrees}
+use Rattle.rust.proofs.Names.{get_numbered, any_utf8, position_utf8, numbered_length}
 
 -- ---- the loops
 
-pub contains-any : (x : ℕ) (l : List ℕ) → contains x l ≡ any (eqb x) l
-contains-any x [] = refl
-contains-any x (y ∷ l) = ap (λ b. eqb x y || b) (contains-any x l)
+pub contains_any : (x : ℕ) (l : List ℕ) → contains x l ≡ any (eqb x) l
+contains_any x [] = refl
+contains_any x (y ∷ l) = ap (λ b. eqb x y || b) (contains_any x l)
 
-push-one : (xs : List ℕ) (n : ℕ) → cond (not (contains n (firstSeen eqb xs))) (firstSeen eqb xs ++ (n ∷ [])) (firstSeen eqb xs) ≡ firstSeen eqb (xs ++ (n ∷ []))
-push-one xs n =
-    ap (λ b. cond (not b) (firstSeen eqb xs ++ (n ∷ [])) (firstSeen eqb xs)) (contains-any n (firstSeen eqb xs))
-    ∙ turn (any (eqb n) (firstSeen eqb xs))
-    ∙ sym (seen-snoc eqb eqb→eq xs n)
+push_one : (xs : List ℕ) (n : ℕ) → cond (not (contains n (first_seen eqb xs))) (first_seen eqb xs ++ (n ∷ [])) (first_seen eqb xs) ≡ first_seen eqb (xs ++ (n ∷ []))
+push_one xs n =
+    ap (λ b. cond (not b) (first_seen eqb xs ++ (n ∷ [])) (first_seen eqb xs)) (contains_any n (first_seen eqb xs))
+    ∙ turn (any (eqb n) (first_seen eqb xs))
+    ∙ sym (seen_snoc eqb eqb→eq xs n)
   where
-    turn : (b : Bool) → cond (not b) (firstSeen eqb xs ++ (n ∷ [])) (firstSeen eqb xs) ≡ cond b (firstSeen eqb xs) (firstSeen eqb xs ++ (n ∷ []))
+    turn : (b : Bool) → cond (not b) (first_seen eqb xs ++ (n ∷ [])) (first_seen eqb xs) ≡ cond b (first_seen eqb xs) (first_seen eqb xs ++ (n ∷ []))
     turn true = refl
     turn false = refl
 
-push-new : (xs cats : List ℕ) → pushNew (firstSeen eqb xs) cats ≡ firstSeen eqb (xs ++ cats)
-push-new xs [] = ap (firstSeen eqb) (sym (append-nil xs))
-push-new xs (n ∷ cats) =
-    ap (λ buffer. pushNew buffer cats) (push-one xs n)
-    ∙ push-new (xs ++ (n ∷ [])) cats
-    ∙ ap (firstSeen eqb) (append_assoc xs (n ∷ []) cats)
+push_new_lem : (xs cats : List ℕ) → push_new (first_seen eqb xs) cats ≡ first_seen eqb (xs ++ cats)
+push_new_lem xs [] = ap (first_seen eqb) (sym (append-nil xs))
+push_new_lem xs (n ∷ cats) =
+    ap (λ buffer. push_new buffer cats) (push_one xs n)
+    ∙ push_new_lem (xs ++ (n ∷ [])) cats
+    ∙ ap (first_seen eqb) (append_assoc xs (n ∷ []) cats)
 
 -- the categories of the ranges that hold c
 abbrev held : ℕ → List CharRange → List ℕ
-held c rs = joined (map (λ g. g.categories) (select (rangeHolds c) (map rangeIn rs)))
+held c rs = joined (map (λ g. g.categories) (select (range_holds c) (map range_in rs)))
 
-push-ranges : (c : ℕ) (xs : List ℕ) (rs : List CharRange) → pushRanges c (firstSeen eqb xs) rs ≡ firstSeen eqb (xs ++ held c rs)
-push-ranges c xs [] = ap (firstSeen eqb) (sym (append-nil xs))
-push-ranges c xs (r ∷ rs) = go (leb r.lower c && leb c r.higher) (push-ranges c xs rs) (push-ranges c (xs ++ r.ids) rs)
+push_ranges_lem : (c : ℕ) (xs : List ℕ) (rs : List CharRange) → push_ranges c (first_seen eqb xs) rs ≡ first_seen eqb (xs ++ held c rs)
+push_ranges_lem c xs [] = ap (first_seen eqb) (sym (append-nil xs))
+push_ranges_lem c xs (r ∷ rs) = go (leb r.lower c && leb c r.higher) (push_ranges_lem c xs rs) (push_ranges_lem c (xs ++ r.ids) rs)
   where
-    go : (b : Bool) → pushRanges c (firstSeen eqb xs) rs ≡ firstSeen eqb (xs ++ held c rs) → pushRanges c (firstSeen eqb (xs ++ r.ids)) rs ≡ firstSeen eqb ((xs ++ r.ids) ++ held c rs)
-        → pushRanges c (cond b (pushNew (firstSeen eqb xs) r.ids) (firstSeen eqb xs)) rs
-        ≡ firstSeen eqb (xs ++ joined (map (λ g. g.categories) (cond b (rangeIn r ∷ select (rangeHolds c) (map rangeIn rs)) (select (rangeHolds c) (map rangeIn rs)))))
-    go true e f = ap (λ buffer. pushRanges c buffer rs) (push-new xs r.ids) ∙ f ∙ ap (firstSeen eqb) (append_assoc xs r.ids (held c rs))
+    go : (b : Bool) → push_ranges c (first_seen eqb xs) rs ≡ first_seen eqb (xs ++ held c rs) → push_ranges c (first_seen eqb (xs ++ r.ids)) rs ≡ first_seen eqb ((xs ++ r.ids) ++ held c rs)
+        → push_ranges c (cond b (push_new (first_seen eqb xs) r.ids) (first_seen eqb xs)) rs
+        ≡ first_seen eqb (xs ++ joined (map (λ g. g.categories) (cond b (range_in r ∷ select (range_holds c) (map range_in rs)) (select (range_holds c) (map range_in rs)))))
+    go true e f = ap (λ buffer. push_ranges c buffer rs) (push_new_lem xs r.ids) ∙ f ∙ ap (first_seen eqb) (append_assoc xs r.ids (held c rs))
     go false e f = e
 
 -- ---- DEFAULT
 
-default-is : (ks : List Str) → get defaultCategoryName (numberedFrom 0 ks) ≡ cond (any (same default) (map utf8 ks)) (some (position_of same default (map utf8 ks))) none
-unfolding utf8 utf8Of
-default-is ks =
-    get-numbered 0 ks defaultCategoryName
-    ∙ ap₂ (λ b j. cond b (some j) none) (sym (any-utf8 defaultCategoryName ks)) (zeroed ∙ sym (position-utf8 defaultCategoryName ks))
+default_is : (ks : List Str) → get default_category_name (numbered_from 0 ks) ≡ cond (any (same default) (map utf8 ks)) (some (position_of same default (map utf8 ks))) none
+unfolding utf8 utf8_of
+default_is ks =
+    get_numbered 0 ks default_category_name
+    ∙ ap₂ (λ b j. cond b (some j) none) (sym (any_utf8 default_category_name ks)) (zeroed ∙ sym (position_utf8 default_category_name ks))
   where
-    zeroed : 0 + position_of equal defaultCategoryName ks ≡ position_of equal defaultCategoryName ks
+    zeroed : 0 + position_of equal default_category_name ks ≡ position_of equal default_category_name ks
     zeroed = omega arith
 
-push-default : (buffer : List ℕ) (b : Bool) (j : ℕ) → pushDefault buffer (cond b (some j) none) ≡ or_else buffer (cond b (j ∷ []) [])
-push-default [] true j = refl
-push-default [] false j = refl
-push-default (x ∷ buffer) b j = refl
+push_default_lem : (buffer : List ℕ) (b : Bool) (j : ℕ) → push_default buffer (cond b (some j) none) ≡ or_else buffer (cond b (j ∷ []) [])
+push_default_lem [] true j = refl
+push_default_lem [] false j = refl
+push_default_lem (x ∷ buffer) b j = refl
 
 -- (3) the covering rule, at every number
-pub categories-are : (b : Builder) (r : Reading) → Agrees b r → (c : ℕ) → lookupCategories b c ≡ categoriesAt r c
-unfolding lookupCategories categoriesAt named defaults
-categories-are b r a c =
-    let ranges : pushRanges c [] b.charRanges ≡ firstSeen eqb (covers r c) =
-    push-ranges c [] b.charRanges ∙ ap (λ gs. firstSeen eqb (joined (map (λ g. g.categories) (select (rangeHolds c) gs)))) a.ranges-are in
-    let fallback : get defaultCategoryName b.categoryIndex ≡ cond (any (same default) r.names) (some (position_of same default r.names)) none =
-    ap (get defaultCategoryName) a.index_is ∙ default-is a.names ∙ ap (λ ns. cond (any (same default) ns) (some (position_of same default ns)) none) a.names-are in
-    ap₂ pushDefault ranges fallback ∙ push-default (firstSeen eqb (covers r c)) (any (same default) r.names) (position_of same default r.names)
+pub categories_are : (b : Builder) (r : Reading) → Agrees b r → (c : ℕ) → lookup_categories b c ≡ categories_at r c
+unfolding lookup_categories categories_at named defaults
+categories_are b r a c =
+    let ranges : push_ranges c [] b.char_ranges ≡ first_seen eqb (covers r c) =
+    push_ranges_lem c [] b.char_ranges ∙ ap (λ gs. first_seen eqb (joined (map (λ g. g.categories) (select (range_holds c) gs)))) a.ranges_are in
+    let fallback : get default_category_name b.category_index ≡ cond (any (same default) r.names) (some (position_of same default r.names)) none =
+    ap (get default_category_name) a.index_is ∙ default_is a.names ∙ ap (λ ns. cond (any (same default) ns) (some (position_of same default ns)) none) a.names_are in
+    ap₂ push_default ranges fallback ∙ push_default_lem (first_seen eqb (covers r c)) (any (same default) r.names) (position_of same default r.names)
 
 -- ---- names
 
-place-names : (before after : List Str) → placeNames (before ++ replicate (length after) []) (numberedFrom (length before) after) ≡ ok (before ++ after)
-place-names before [] = refl
-place-names before (n ∷ after) =
-    ap (λ b. cond b (placeNames (set (before ++ ([] ∷ replicate (length after) [])) (length before) n) (numberedFrom (suc (length before)) after)) panics) inside
-    ∙ ap (λ l. placeNames l (numberedFrom (suc (length before)) after)) (set-append_seam before [] (replicate (length after) []) n ∙ sym (append_assoc before (n ∷ []) (replicate (length after) [])))
-    ∙ ap (λ k. placeNames ((before ++ (n ∷ [])) ++ replicate (length after) []) (numberedFrom k after)) (sym longer)
-    ∙ place-names (before ++ (n ∷ [])) after
+place_names_lem : (before after : List Str) → place_names (before ++ replicate (length after) []) (numbered_from (length before) after) ≡ ok (before ++ after)
+place_names_lem before [] = refl
+place_names_lem before (n ∷ after) =
+    ap (λ b. cond b (place_names (set (before ++ ([] ∷ replicate (length after) [])) (length before) n) (numbered_from (suc (length before)) after)) panics) inside
+    ∙ ap (λ l. place_names l (numbered_from (suc (length before)) after)) (set-append_seam before [] (replicate (length after) []) n ∙ sym (append_assoc before (n ∷ []) (replicate (length after) [])))
+    ∙ ap (λ k. place_names ((before ++ (n ∷ [])) ++ replicate (length after) []) (numbered_from k after)) (sym longer)
+    ∙ place_names_lem (before ++ (n ∷ [])) after
     ∙ ap ok (append_assoc before (n ∷ []) after)
   where
     longer : length (before ++ (n ∷ [])) ≡ suc (length before)
     longer = length-append before (n ∷ []) ∙ (omega arith)
 
-    all-length : length (before ++ ([] ∷ replicate (length after) [])) ≡ length before + suc (length (replicate {A = Str} (length after) []))
-    all-length = length-append before ([] ∷ replicate (length after) [])
+    all_length : length (before ++ ([] ∷ replicate (length after) [])) ≡ length before + suc (length (replicate {A = Str} (length after) []))
+    all_length = length-append before ([] ∷ replicate (length after) [])
 
     inside : ltb (length before) (length (before ++ ([] ∷ replicate (length after) []))) ≡ true
-    inside = ap (ltb (length before)) all-length ∙ lt-ltb (length before) (length before + suc (length (replicate {A = Str} (length after) []))) (omega arith)
+    inside = ap (ltb (length before)) all_length ∙ lt-ltb (length before) (length before + suc (length (replicate {A = Str} (length after) []))) (omega arith)
 
 -- every name at its number
-pub names-placed : (b : Builder) (r : Reading) (a : Agrees b r) → categoryNamesOf b.categoryIndex ≡ ok a.names
-unfolding categoryNamesOf
-names-placed b r a =
-    ap (λ m. placeNames (replicate (length m) []) m) a.index_is
-    ∙ ap (λ k. placeNames (replicate k []) (numberedFrom 0 a.names)) (numbered-length 0 a.names)
-    ∙ place-names [] a.names
+pub names_placed : (b : Builder) (r : Reading) (a : Agrees b r) → category_names_of b.category_index ≡ ok a.names
+unfolding category_names_of
+names_placed b r a =
+    ap (λ m. place_names (replicate (length m) []) m) a.index_is
+    ∙ ap (λ k. place_names (replicate k []) (numbered_from 0 a.names)) (numbered_length 0 a.names)
+    ∙ place_names_lem [] a.names

@@ -12,101 +12,101 @@ use mir.Facts.{and_yes, yes_and, or_yes, leb_yes}
 use borrow.Author.Tests.{eqb-true}
 use Rattle.paper.specs.Lists as lists
 use Rattle.paper.specs.Lists.{empty, all, select, push, cut, until}
-use Rattle.paper.specs.Text.Scalar.{between, whites, isWhite, isSep, cr, lf, digit0, letterX, dot}
+use Rattle.paper.specs.Text.Scalar.{between, whites, is_white, is_sep, cr, lf, digit0, letter_x, dot}
 use Rattle.paper.specs.CharDef.Line as line
 use Rattle.paper.specs.CharDef.Line.{comment, begins0x}
-use Rattle.paper.specs.CharDef.Reading.{isLF, noLF}
+use Rattle.paper.specs.CharDef.Reading.{is_lf, no_lf}
 use Rattle.paper.specs.CharDef.BadLine.{Body}
 use Rattle.paper.specs.Computed.ReadText.{strip0x, parts, body}
-use Rattle.paper.specs.Computed.ReadUnk.{dropCR, fromPieces}
-use Rattle.paper.proofs.Lists.Facts.{T→true, T→false, false→T, all_append, pushAll, pushAll-first, below, from-below}
+use Rattle.paper.specs.Computed.ReadUnk.{drop_cr, from_pieces}
+use Rattle.paper.proofs.Lists.Facts.{T→true, T→false, false→T, all_append, push_all, push_all_first, below, from_below}
 use Rattle.paper.proofs.CharDef.Bodies.{has_body, body_is}
-use Rattle.rust.specs.Text.{ok, is_empty, filter, contains, splitAfter, split, starts_with, splitStrAfter, trimMatchesAfter, trimStartMatches, trimStart, trimEnd, trim, whitespace, isWhitespace, isAsciiWhitespace, splitWhitespace, splitAsciiWhitespace, inclusiveAfter, stripSuffix, addFront, unended, unendedFrom, unwrapOr, lines, lineFeed, carriageReturn}
-use Rattle.rust.specs.CharDef.{zeroX, twoDots, isHash, next}
+use Rattle.rust.specs.Text.{ok, is_empty, filter, contains, split_after, split, starts_with, split_str_after, trim_matches_after, trim_start_matches, trim_start, trim_end, trim, whitespace, is_whitespace, is_ascii_whitespace, split_whitespace, split_ascii_whitespace, inclusive_after, strip_suffix, add_front, unended, unended_from, unwrap_or, lines, line_feed, carriage_return}
+use Rattle.rust.specs.CharDef.{zero_x, two_dots, is_hash, next}
 
 -- ---- splits
 
-pub pushAll-snoc : (s : List ℕ) (c : ℕ) (ls : List (List ℕ)) → pushAll (s ++ (c ∷ [])) ls ≡ pushAll s (push c ls)
-pushAll-snoc [] c ls = refl
-pushAll-snoc (x ∷ s) c ls = ap (push x) (pushAll-snoc s c ls)
+pub push_all_snoc : (s : List ℕ) (c : ℕ) (ls : List (List ℕ)) → push_all (s ++ (c ∷ [])) ls ≡ push_all s (push c ls)
+push_all_snoc [] c ls = refl
+push_all_snoc (x ∷ s) c ls = ap (push x) (push_all_snoc s c ls)
 
-pub split-cut : (p : ℕ → Bool) (piece cs : List ℕ) → splitAfter p piece cs ≡ pushAll piece (cut p cs)
-split-cut p piece [] = sym (pushAll-first p piece [])
-split-cut p piece (c ∷ cs) = go (p c) (split-cut p [] cs) (split-cut p (piece ++ (c ∷ [])) cs)
+pub split_cut : (p : ℕ → Bool) (piece cs : List ℕ) → split_after p piece cs ≡ push_all piece (cut p cs)
+split_cut p piece [] = sym (push_all_first p piece [])
+split_cut p piece (c ∷ cs) = go (p c) (split_cut p [] cs) (split_cut p (piece ++ (c ∷ [])) cs)
   where
-    go : (b : Bool) → splitAfter p [] cs ≡ cut p cs → splitAfter p (piece ++ (c ∷ [])) cs ≡ pushAll (piece ++ (c ∷ [])) (cut p cs)
-        → cond b (piece ∷ splitAfter p [] cs) (splitAfter p (piece ++ (c ∷ [])) cs) ≡ pushAll piece (cond b ([] ∷ cut p cs) (push c (cut p cs)))
-    go true e f = ap (λ l. piece ∷ l) e ∙ sym (pushAll-first p piece (cut p cs))
-    go false e f = f ∙ pushAll-snoc piece c (cut p cs)
+    go : (b : Bool) → split_after p [] cs ≡ cut p cs → split_after p (piece ++ (c ∷ [])) cs ≡ push_all (piece ++ (c ∷ [])) (cut p cs)
+        → cond b (piece ∷ split_after p [] cs) (split_after p (piece ++ (c ∷ [])) cs) ≡ push_all piece (cond b ([] ∷ cut p cs) (push c (cut p cs)))
+    go true e f = ap (λ l. piece ∷ l) e ∙ sym (push_all_first p piece (cut p cs))
+    go false e f = f ∙ push_all_snoc piece c (cut p cs)
 
-pub split-is : (p : ℕ → Bool) (cs : List ℕ) → split p cs ≡ cut p cs
-split-is p cs = split-cut p [] cs
+pub split_is : (p : ℕ → Bool) (cs : List ℕ) → split p cs ≡ cut p cs
+split_is p cs = split_cut p [] cs
 
 -- pieces that are not empty
-pub filter-select : {A : Type 0} (p q : A → Bool) → ((x : A) → p x ≡ q x) → (ls : List A) → filter p ls ≡ select q ls
-filter-select p q f [] = refl
-filter-select p q f (x ∷ ls) = go (p x) (q x) (f x) (filter-select p q f ls)
+pub filter_select : {A : Type 0} (p q : A → Bool) → ((x : A) → p x ≡ q x) → (ls : List A) → filter p ls ≡ select q ls
+filter_select p q f [] = refl
+filter_select p q f (x ∷ ls) = go (p x) (q x) (f x) (filter_select p q f ls)
   where
     go : (a b : Bool) → a ≡ b → filter p ls ≡ select q ls → cond a (x ∷ filter p ls) (filter p ls) ≡ cond b (x ∷ select q ls) (select q ls)
     go a b e i = ap₂ (λ b l. cond b (x ∷ l) l) e i
 
-empty-is : (l : List ℕ) → not (is_empty l) ≡ not (empty l)
-empty-is [] = refl
-empty-is (c ∷ l) = refl
+empty_is : (l : List ℕ) → not (is_empty l) ≡ not (empty l)
+empty_is [] = refl
+empty_is (c ∷ l) = refl
 
 pub words_are : (p : ℕ → Bool) (cs : List ℕ) → filter (λ w. not (is_empty w)) (split p cs) ≡ lists.words p cs
-words_are p cs = filter-select (λ w. not (is_empty w)) (λ l. not (empty l)) empty-is (split p cs) ∙ ap (select (λ l. not (empty l))) (split-is p cs)
+words_are p cs = filter_select (λ w. not (is_empty w)) (λ l. not (empty l)) empty_is (split p cs) ∙ ap (select (λ l. not (empty l))) (split_is p cs)
 
 -- the first piece
-cut-first : (p : ℕ → Bool) (cs : List ℕ) → (rest : List (List ℕ)) × (cut p cs ≡ until p cs ∷ rest)
-cut-first p [] = ([], refl)
-cut-first p (c ∷ cs) = go (p c) (cut-first p cs)
+cut_first : (p : ℕ → Bool) (cs : List ℕ) → (rest : List (List ℕ)) × (cut p cs ≡ until p cs ∷ rest)
+cut_first p [] = ([], refl)
+cut_first p (c ∷ cs) = go (p c) (cut_first p cs)
   where
     go : (b : Bool) → (rest : List (List ℕ)) × (cut p cs ≡ until p cs ∷ rest)
         → (rest : List (List ℕ)) × (cond b ([] ∷ cut p cs) (push c (cut p cs)) ≡ cond b [] (c ∷ until p cs) ∷ rest)
     go true (rest, e) = (cut p cs, refl)
     go false (rest, e) = (rest, ap (push c) e)
 
-pub next-is : (cs : List ℕ) → next (split isHash cs) ≡ ok (until line.isHash cs)
-next-is cs = let (rest, e) = cut-first isHash cs in ap next (split-is isHash cs ∙ e)
+pub next_is : (cs : List ℕ) → next (split is_hash cs) ≡ ok (until line.is_hash cs)
+next_is cs = let (rest, e) = cut_first is_hash cs in ap next (split_is is_hash cs ∙ e)
 
 -- ---- trims
 
-pub trimStart-is : (p : ℕ → Bool) (cs : List ℕ) → trimStart p cs ≡ lists.trimStart p cs
-trimStart-is p [] = refl
-trimStart-is p (c ∷ cs) = ap (λ r. cond (p c) r (c ∷ cs)) (trimStart-is p cs)
+pub trim_start_is : (p : ℕ → Bool) (cs : List ℕ) → trim_start p cs ≡ lists.trim_start p cs
+trim_start_is p [] = refl
+trim_start_is p (c ∷ cs) = ap (λ r. cond (p c) r (c ∷ cs)) (trim_start_is p cs)
 
 -- from behind: nothing is left, or what is left stays in front
-trim-snoc : (p : ℕ → Bool) (s : List ℕ) (x : ℕ) → trimStart p (s ++ (x ∷ [])) ≡ cond (is_empty (trimStart p s)) (trimStart p (x ∷ [])) (trimStart p s ++ (x ∷ []))
-trim-snoc p [] x = refl
-trim-snoc p (c ∷ s) x = go (p c) (trim-snoc p s x)
+trim_snoc : (p : ℕ → Bool) (s : List ℕ) (x : ℕ) → trim_start p (s ++ (x ∷ [])) ≡ cond (is_empty (trim_start p s)) (trim_start p (x ∷ [])) (trim_start p s ++ (x ∷ []))
+trim_snoc p [] x = refl
+trim_snoc p (c ∷ s) x = go (p c) (trim_snoc p s x)
   where
-    go : (b : Bool) → trimStart p (s ++ (x ∷ [])) ≡ cond (is_empty (trimStart p s)) (trimStart p (x ∷ [])) (trimStart p s ++ (x ∷ []))
-        → cond b (trimStart p (s ++ (x ∷ []))) (c ∷ (s ++ (x ∷ [])))
-        ≡ cond (is_empty (cond b (trimStart p s) (c ∷ s))) (trimStart p (x ∷ [])) (cond b (trimStart p s) (c ∷ s) ++ (x ∷ []))
+    go : (b : Bool) → trim_start p (s ++ (x ∷ [])) ≡ cond (is_empty (trim_start p s)) (trim_start p (x ∷ [])) (trim_start p s ++ (x ∷ []))
+        → cond b (trim_start p (s ++ (x ∷ []))) (c ∷ (s ++ (x ∷ [])))
+        ≡ cond (is_empty (cond b (trim_start p s) (c ∷ s))) (trim_start p (x ∷ [])) (cond b (trim_start p s) (c ∷ s) ++ (x ∷ []))
     go true i = i
     go false i = refl
 
-rev-empty : (s : List ℕ) → is_empty s ≡ empty (reverse s)
-rev-empty [] = refl
-rev-empty (c ∷ s) = sym (ap empty (reverse-cons c s) ∙ behind (reverse s))
+rev_empty : (s : List ℕ) → is_empty s ≡ empty (reverse s)
+rev_empty [] = refl
+rev_empty (c ∷ s) = sym (ap empty (reverse-cons c s) ∙ behind (reverse s))
   where
     behind : (t : List ℕ) → empty (t ++ (c ∷ [])) ≡ false
     behind [] = refl
     behind (d ∷ t) = refl
 
 solid : (d : ℕ) (t : List ℕ) → empty (reverse (d ∷ t)) ≡ false
-solid d t = sym (rev-empty (d ∷ t))
+solid d t = sym (rev_empty (d ∷ t))
 
-pub trimEnd-is : (p : ℕ → Bool) (cs : List ℕ) → trimEnd p cs ≡ lists.trimEnd p cs
-trimEnd-is p [] = refl
-trimEnd-is p (c ∷ cs) =
-    ap (λ l. reverse (trimStart p l)) (reverse-cons c cs)
-    ∙ ap reverse (trim-snoc p (reverse cs) c)
-    ∙ turn (trimStart p (reverse cs)) (trimEnd-is p cs) (p c)
+pub trim_end_is : (p : ℕ → Bool) (cs : List ℕ) → trim_end p cs ≡ lists.trim_end p cs
+trim_end_is p [] = refl
+trim_end_is p (c ∷ cs) =
+    ap (λ l. reverse (trim_start p l)) (reverse-cons c cs)
+    ∙ ap reverse (trim_snoc p (reverse cs) c)
+    ∙ turn (trim_start p (reverse cs)) (trim_end_is p cs) (p c)
   where
-    turn : (t : List ℕ) → reverse t ≡ lists.trimEnd p cs → (b : Bool)
-        → reverse (cond (is_empty t) (cond b [] (c ∷ [])) (t ++ (c ∷ []))) ≡ cond (b && empty (lists.trimEnd p cs)) [] (c ∷ lists.trimEnd p cs)
+    turn : (t : List ℕ) → reverse t ≡ lists.trim_end p cs → (b : Bool)
+        → reverse (cond (is_empty t) (cond b [] (c ∷ [])) (t ++ (c ∷ []))) ≡ cond (b && empty (lists.trim_end p cs)) [] (c ∷ lists.trim_end p cs)
     turn [] ih true = rw (← ih)
     turn [] ih false = ap (λ l. c ∷ l) ih
     turn (d ∷ t) ih true = rw (← ih, solid d t) (reverse-append (d ∷ t) (c ∷ []))
@@ -114,47 +114,47 @@ trimEnd-is p (c ∷ cs) =
 
 -- ---- patterns
 
-and-yes-true : (a : Bool) → (a && true) ≡ a
-and-yes-true true = refl
-and-yes-true false = refl
+and_yes_true : (a : Bool) → (a && true) ≡ a
+and_yes_true true = refl
+and_yes_true false = refl
 
 and_no : (a : Bool) → (a && false) ≡ false
 and_no true = refl
 and_no false = refl
 
-pub starts-0x : (cs : List ℕ) → starts_with zeroX cs ≡ begins0x cs
-starts-0x [] = refl
-starts-0x (c ∷ []) = and_no (eqb c digit0)
-starts-0x (c ∷ d ∷ cs) = ap (λ b. eqb c digit0 && b) (and-yes-true (eqb d letterX))
+pub starts_0x : (cs : List ℕ) → starts_with zero_x cs ≡ begins0x cs
+starts_0x [] = refl
+starts_0x (c ∷ []) = and_no (eqb c digit0)
+starts_0x (c ∷ d ∷ cs) = ap (λ b. eqb c digit0 && b) (and_yes_true (eqb d letter_x))
 
-pub strip-is : (cs : List ℕ) → trimStartMatches zeroX cs ≡ strip0x cs
-strip-is [] = refl
-strip-is (c ∷ []) = ap (λ b. cond b [] (c ∷ [])) (and_no (eqb c digit0))
-strip-is (c ∷ d ∷ cs) =
-    ap (λ b. cond b (trimMatchesAfter zeroX 0 cs) (c ∷ d ∷ cs)) (starts-0x (c ∷ d ∷ cs))
-    ∙ ap (λ l. cond (eqb c digit0 && eqb d letterX) l (c ∷ d ∷ cs)) (strip-is cs)
+pub strip_is : (cs : List ℕ) → trim_start_matches zero_x cs ≡ strip0x cs
+strip_is [] = refl
+strip_is (c ∷ []) = ap (λ b. cond b [] (c ∷ [])) (and_no (eqb c digit0))
+strip_is (c ∷ d ∷ cs) =
+    ap (λ b. cond b (trim_matches_after zero_x 0 cs) (c ∷ d ∷ cs)) (starts_0x (c ∷ d ∷ cs))
+    ∙ ap (λ l. cond (eqb c digit0 && eqb d letter_x) l (c ∷ d ∷ cs)) (strip_is cs)
 
-pub parts_are : (piece cs : List ℕ) → splitStrAfter twoDots 0 piece cs ≡ pushAll piece (parts cs)
-parts_are piece [] = sym (pushAll-first (λ c. false) piece [])
+pub parts_are : (piece cs : List ℕ) → split_str_after two_dots 0 piece cs ≡ push_all piece (parts cs)
+parts_are piece [] = sym (push_all_first (λ c. false) piece [])
 parts_are piece (c ∷ []) =
     ap (λ b. cond b (piece ∷ [] ∷ []) ((piece ++ (c ∷ [])) ∷ [])) (and_no (eqb c dot))
-    ∙ sym (pushAll-first (λ c. false) (piece ++ (c ∷ [])) [])
-    ∙ pushAll-snoc piece c ([] ∷ [])
+    ∙ sym (push_all_first (λ c. false) (piece ++ (c ∷ [])) [])
+    ∙ push_all_snoc piece c ([] ∷ [])
 parts_are piece (c ∷ d ∷ cs) =
-    ap (λ b. cond (eqb c dot && b) (piece ∷ splitStrAfter twoDots 0 [] cs) (splitStrAfter twoDots 0 (piece ++ (c ∷ [])) (d ∷ cs))) (and-yes-true (eqb d dot))
+    ap (λ b. cond (eqb c dot && b) (piece ∷ split_str_after two_dots 0 [] cs) (split_str_after two_dots 0 (piece ++ (c ∷ [])) (d ∷ cs))) (and_yes_true (eqb d dot))
     ∙ go (eqb c dot && eqb d dot) (parts_are [] cs) (parts_are (piece ++ (c ∷ [])) (d ∷ cs))
   where
-    go : (b : Bool) → splitStrAfter twoDots 0 [] cs ≡ parts cs → splitStrAfter twoDots 0 (piece ++ (c ∷ [])) (d ∷ cs) ≡ pushAll (piece ++ (c ∷ [])) (parts (d ∷ cs))
-        → cond b (piece ∷ splitStrAfter twoDots 0 [] cs) (splitStrAfter twoDots 0 (piece ++ (c ∷ [])) (d ∷ cs))
-        ≡ pushAll piece (cond b ([] ∷ parts cs) (push c (parts (d ∷ cs))))
-    go true e f = ap (λ l. piece ∷ l) e ∙ sym (pushAll-first (λ c. false) piece (parts cs))
-    go false e f = f ∙ pushAll-snoc piece c (parts (d ∷ cs))
+    go : (b : Bool) → split_str_after two_dots 0 [] cs ≡ parts cs → split_str_after two_dots 0 (piece ++ (c ∷ [])) (d ∷ cs) ≡ push_all (piece ++ (c ∷ [])) (parts (d ∷ cs))
+        → cond b (piece ∷ split_str_after two_dots 0 [] cs) (split_str_after two_dots 0 (piece ++ (c ∷ [])) (d ∷ cs))
+        ≡ push_all piece (cond b ([] ∷ parts cs) (push c (parts (d ∷ cs))))
+    go true e f = ap (λ l. piece ∷ l) e ∙ sym (push_all_first (λ c. false) piece (parts cs))
+    go false e f = f ∙ push_all_snoc piece c (parts (d ∷ cs))
 
 -- ---- white space
 
-contains-at : (q : ℕ → Bool) (l : List ℕ) → T (all q l) → (c : ℕ) → T (contains c l) → T (q c)
-contains-at q [] a c t = absurd t
-contains-at q (x ∷ l) a c t = go (or_yes (eqb c x) (contains c l) t) (contains-at q l h.1 c)
+contains_at : (q : ℕ → Bool) (l : List ℕ) → T (all q l) → (c : ℕ) → T (contains c l) → T (q c)
+contains_at q [] a c t = absurd t
+contains_at q (x ∷ l) a c t = go (or_yes (eqb c x) (contains c l) t) (contains_at q l h.1 c)
   where
     h : T (q x) × T (all q l)
     h = and_yes (q x) (all q l) a
@@ -164,10 +164,10 @@ contains-at q (x ∷ l) a c t = go (or_yes (eqb c x) (contains c l) t) (contains
     go (inr t) f = f t
 
 -- every number of these runs passes, by computation
-runs-in : (p : ℕ → Bool) (rs : List (ℕ × ℕ)) → T (all (λ r. below (λ i. p (r.0 + i)) (r.1 + 1 - r.0)) rs)
+runs_in : (p : ℕ → Bool) (rs : List (ℕ × ℕ)) → T (all (λ r. below (λ i. p (r.0 + i)) (r.1 + 1 - r.0)) rs)
     → (c : ℕ) → T (lists.any (λ r. between r.0 r.1 c) rs) → T (p c)
-runs-in p [] a c t = absurd t
-runs-in p (r ∷ rs) a c t = go (or_yes (between r.0 r.1 c) (lists.any (λ r. between r.0 r.1 c) rs) t) (runs-in p rs h.1 c)
+runs_in p [] a c t = absurd t
+runs_in p (r ∷ rs) a c t = go (or_yes (between r.0 r.1 c) (lists.any (λ r. between r.0 r.1 c) rs) t) (runs_in p rs h.1 c)
   where
     h : T (below (λ i. p (r.0 + i)) (r.1 + 1 - r.0)) × T (all (λ r. below (λ i. p (r.0 + i)) (r.1 + 1 - r.0)) rs)
     h = and_yes (below (λ i. p (r.0 + i)) (r.1 + 1 - r.0)) _ a
@@ -176,29 +176,29 @@ runs-in p (r ∷ rs) a c t = go (or_yes (between r.0 r.1 c) (lists.any (λ r. be
     here lo hi l u b =
         let e : lo + (c - lo) ≡ c = omega arith in
         let j : c - lo < hi + 1 - lo = omega arith in
-        subst (λ x. T (p x)) e (from-below (λ i. p (lo + i)) (hi + 1 - lo) b (c - lo) j)
+        subst (λ x. T (p x)) e (from_below (λ i. p (lo + i)) (hi + 1 - lo) b (c - lo) j)
 
     go : T (between r.0 r.1 c) ⊎ T (lists.any (λ r. between r.0 r.1 c) rs) → (T (lists.any (λ r. between r.0 r.1 c) rs) → T (p c)) → T (p c)
     go (inl e) f = let b = and_yes (leb r.0 c) (leb c r.1) e in here r.0 r.1 (leb_yes b.0) (leb_yes b.1) h.0
     go (inr t) f = f t
 
-pub both-T : (a b : Bool) → (T a → T b) → (T b → T a) → a ≡ b
-both-T true true f g = refl
-both-T true false f g = absurd (f tt)
-both-T false true f g = absurd (g tt)
-both-T false false f g = refl
+pub both_T : (a b : Bool) → (T a → T b) → (T b → T a) → a ≡ b
+both_T true true f g = refl
+both_T true false f g = absurd (f tt)
+both_T false true f g = absurd (g tt)
+both_T false false f g = refl
 
-pub white-same : (c : ℕ) → isWhitespace c ≡ isWhite c
-unfolding isWhitespace isWhite
-white-same c = both-T (isWhitespace c) (isWhite c) (contains-at isWhite whitespace tt c) (runs-in isWhitespace whites tt c)
+pub white_same : (c : ℕ) → is_whitespace c ≡ is_white c
+unfolding is_whitespace is_white
+white_same c = both_T (is_whitespace c) (is_white c) (contains_at is_white whitespace tt c) (runs_in is_whitespace whites tt c)
 
-pub white-is : isWhitespace ≡ isWhite
-white-is = fun_ext white-same
+pub white_is : is_whitespace ≡ is_white
+white_is = fun_ext white_same
 
 -- LF apart, which no line has
-pub sep-same : (c : ℕ) → T (not (isLF c)) → isAsciiWhitespace c ≡ isSep c
-unfolding isAsciiWhitespace isSep
-sep-same c t = ap (λ b. eqb c 0x20 || (eqb c 0x09 || (b || (eqb c 0x0C || (eqb c 0x0D || false))))) (T→false (isLF c) t) ∙ go (eqb c 0x20) (eqb c 0x09) (eqb c 0x0C) (eqb c 0x0D)
+pub sep_same : (c : ℕ) → T (not (is_lf c)) → is_ascii_whitespace c ≡ is_sep c
+unfolding is_ascii_whitespace is_sep
+sep_same c t = ap (λ b. eqb c 0x20 || (eqb c 0x09 || (b || (eqb c 0x0C || (eqb c 0x0D || false))))) (T→false (is_lf c) t) ∙ go (eqb c 0x20) (eqb c 0x09) (eqb c 0x0C) (eqb c 0x0D)
   where
     go : (a b d e : Bool) → (a || (b || (false || (d || (e || false))))) ≡ (b || d || e || a)
     go true true d e = refl
@@ -210,94 +210,94 @@ sep-same c t = ap (λ b. eqb c 0x20 || (eqb c 0x09 || (b || (eqb c 0x0C || (eqb 
     go false false false true = refl
     go false false false false = refl
 
-cut-same : (p q : ℕ → Bool) (cs : List ℕ) → T (noLF cs) → ((c : ℕ) → T (not (isLF c)) → p c ≡ q c) → cut p cs ≡ cut q cs
-cut-same p q [] n f = refl
-cut-same p q (c ∷ cs) n f =
-    let h = and_yes (not (isLF c)) (noLF cs) n in
-    ap₂ (λ b l. cond b ([] ∷ l) (push c l)) (f c h.0) (cut-same p q cs h.1 f)
+cut_same : (p q : ℕ → Bool) (cs : List ℕ) → T (no_lf cs) → ((c : ℕ) → T (not (is_lf c)) → p c ≡ q c) → cut p cs ≡ cut q cs
+cut_same p q [] n f = refl
+cut_same p q (c ∷ cs) n f =
+    let h = and_yes (not (is_lf c)) (no_lf cs) n in
+    ap₂ (λ b l. cond b ([] ∷ l) (push c l)) (f c h.0) (cut_same p q cs h.1 f)
 
-pub white-words : (cs : List ℕ) → splitWhitespace cs ≡ lists.words isWhite cs
-white-words cs = words_are isWhitespace cs ∙ ap (λ p. lists.words p cs) white-is
+pub white_words : (cs : List ℕ) → split_whitespace cs ≡ lists.words is_white cs
+white_words cs = words_are is_whitespace cs ∙ ap (λ p. lists.words p cs) white_is
 
-pub sep-words : (cs : List ℕ) → T (noLF cs) → splitAsciiWhitespace cs ≡ lists.words isSep cs
-sep-words cs n = words_are isAsciiWhitespace cs ∙ ap (select (λ l. not (empty l))) (cut-same isAsciiWhitespace isSep cs n sep-same)
+pub sep_words : (cs : List ℕ) → T (no_lf cs) → split_ascii_whitespace cs ≡ lists.words is_sep cs
+sep_words cs n = words_are is_ascii_whitespace cs ∙ ap (select (λ l. not (empty l))) (cut_same is_ascii_whitespace is_sep cs n sep_same)
 
-pub trim-is : (cs : List ℕ) → trim cs ≡ lists.trimEnd isWhite (lists.trimStart isWhite cs)
-trim-is cs = trimEnd-is isWhitespace (trimStart isWhitespace cs) ∙ ap (lists.trimEnd isWhitespace) (trimStart-is isWhitespace cs) ∙ ap (λ p. lists.trimEnd p (lists.trimStart p cs)) white-is
+pub trim_is : (cs : List ℕ) → trim cs ≡ lists.trim_end is_white (lists.trim_start is_white cs)
+trim_is cs = trim_end_is is_whitespace (trim_start is_whitespace cs) ∙ ap (lists.trim_end is_whitespace) (trim_start_is is_whitespace cs) ∙ ap (λ p. lists.trim_end p (lists.trim_start p cs)) white_is
 
 -- ---- lines
 
-strip-snoc : (s : ℕ) (l : List ℕ) → stripSuffix s (l ++ (s ∷ [])) ≡ some l
-strip-snoc s [] = rw (T→true (eqb s s) (eqb_refl s))
-strip-snoc s (c ∷ []) = ap (addFront c) (strip-snoc s [])
-strip-snoc s (c ∷ d ∷ l) = ap (addFront c) (strip-snoc s (d ∷ l))
+strip_snoc : (s : ℕ) (l : List ℕ) → strip_suffix s (l ++ (s ∷ [])) ≡ some l
+strip_snoc s [] = rw (T→true (eqb s s) (eqb_refl s))
+strip_snoc s (c ∷ []) = ap (add_front c) (strip_snoc s [])
+strip_snoc s (c ∷ d ∷ l) = ap (add_front c) (strip_snoc s (d ∷ l))
 
-strip-none : (l : List ℕ) → T (noLF l) → stripSuffix lineFeed l ≡ none
-strip-none [] n = refl
-strip-none (c ∷ []) n = rw (T→false (isLF c) (and_yes (not (isLF c)) true n).0)
-strip-none (c ∷ d ∷ l) n = ap (addFront c) (strip-none (d ∷ l) (and_yes (not (isLF c)) (noLF (d ∷ l)) n).1)
+strip_none : (l : List ℕ) → T (no_lf l) → strip_suffix line_feed l ≡ none
+strip_none [] n = refl
+strip_none (c ∷ []) n = rw (T→false (is_lf c) (and_yes (not (is_lf c)) true n).0)
+strip_none (c ∷ d ∷ l) n = ap (add_front c) (strip_none (d ∷ l) (and_yes (not (is_lf c)) (no_lf (d ∷ l)) n).1)
 
-dropCR-is : (l : List ℕ) → unwrapOr (stripSuffix carriageReturn l) l ≡ dropCR l
-dropCR-is [] = refl
-dropCR-is (c ∷ []) = go (eqb c cr)
+drop_cr_is : (l : List ℕ) → unwrap_or (strip_suffix carriage_return l) l ≡ drop_cr l
+drop_cr_is [] = refl
+drop_cr_is (c ∷ []) = go (eqb c cr)
   where
-    go : (b : Bool) → unwrapOr (cond b (some []) none) (c ∷ []) ≡ cond b [] (c ∷ [])
+    go : (b : Bool) → unwrap_or (cond b (some []) none) (c ∷ []) ≡ cond b [] (c ∷ [])
     go true = refl
     go false = refl
-dropCR-is (c ∷ d ∷ l) = go (stripSuffix carriageReturn (d ∷ l)) (dropCR-is (d ∷ l))
+drop_cr_is (c ∷ d ∷ l) = go (strip_suffix carriage_return (d ∷ l)) (drop_cr_is (d ∷ l))
   where
-    go : (o : Option (List ℕ)) → unwrapOr o (d ∷ l) ≡ dropCR (d ∷ l) → unwrapOr (addFront c o) (c ∷ d ∷ l) ≡ c ∷ dropCR (d ∷ l)
+    go : (o : Option (List ℕ)) → unwrap_or o (d ∷ l) ≡ drop_cr (d ∷ l) → unwrap_or (add_front c o) (c ∷ d ∷ l) ≡ c ∷ drop_cr (d ∷ l)
     go none e = ap (λ l. c ∷ l) e
     go (some m) e = ap (λ l. c ∷ l) e
 
-unended-is : (l : List ℕ) → unended (l ++ (lf ∷ [])) ≡ dropCR l
-unended-is l = ap (λ o. unendedFrom o (l ++ (lf ∷ []))) (strip-snoc lf l) ∙ dropCR-is l
+unended_is : (l : List ℕ) → unended (l ++ (lf ∷ [])) ≡ drop_cr l
+unended_is l = ap (λ o. unended_from o (l ++ (lf ∷ []))) (strip_snoc lf l) ∙ drop_cr_is l
 
-pub cut-some : (p : ℕ → Bool) (cs : List ℕ) → (l : List ℕ) × (ls : List (List ℕ)) × (cut p cs ≡ l ∷ ls)
-cut-some p cs = let (rest, e) = cut-first p cs in (until p cs, rest, e)
+pub cut_some : (p : ℕ → Bool) (cs : List ℕ) → (l : List ℕ) × (ls : List (List ℕ)) × (cut p cs ≡ l ∷ ls)
+cut_some p cs = let (rest, e) = cut_first p cs in (until p cs, rest, e)
 
-noLF-snoc : (l : List ℕ) (c : ℕ) → T (noLF l) → T (not (isLF c)) → T (noLF (l ++ (c ∷ [])))
-noLF-snoc l c n t = all_append (λ c. not (isLF c)) l (c ∷ []) n (yes_and (not (isLF c)) true t tt)
+no_lf_snoc : (l : List ℕ) (c : ℕ) → T (no_lf l) → T (not (is_lf c)) → T (no_lf (l ++ (c ∷ [])))
+no_lf_snoc l c n t = all_append (λ c. not (is_lf c)) l (c ∷ []) n (yes_and (not (is_lf c)) true t tt)
 
-lines_from : (piece cs : List ℕ) → T (noLF piece) → map unended (inclusiveAfter lineFeed piece cs) ≡ fromPieces (pushAll piece (cut isLF cs))
+lines_from : (piece cs : List ℕ) → T (no_lf piece) → map unended (inclusive_after line_feed piece cs) ≡ from_pieces (push_all piece (cut is_lf cs))
 lines_from [] [] n = refl
 lines_from (p ∷ piece) [] n =
-    ap (λ o. unendedFrom o (p ∷ piece) ∷ []) (strip-none (p ∷ piece) n) ∙ sym (ap fromPieces (pushAll-first isLF (p ∷ piece) []))
-lines_from piece (c ∷ cs) n = go (eqb c lf) refl (lines_from [] cs tt) (λ t. lines_from (piece ++ (c ∷ [])) cs (noLF-snoc piece c n t)) (cut-some isLF cs)
+    ap (λ o. unended_from o (p ∷ piece) ∷ []) (strip_none (p ∷ piece) n) ∙ sym (ap from_pieces (push_all_first is_lf (p ∷ piece) []))
+lines_from piece (c ∷ cs) n = go (eqb c lf) refl (lines_from [] cs tt) (λ t. lines_from (piece ++ (c ∷ [])) cs (no_lf_snoc piece c n t)) (cut_some is_lf cs)
   where
-    go : (b : Bool) → eqb c lf ≡ b → map unended (inclusiveAfter lineFeed [] cs) ≡ fromPieces (cut isLF cs)
-        → (T (not (isLF c)) → map unended (inclusiveAfter lineFeed (piece ++ (c ∷ [])) cs) ≡ fromPieces (pushAll (piece ++ (c ∷ [])) (cut isLF cs)))
-        → (l : List ℕ) × (ls : List (List ℕ)) × (cut isLF cs ≡ l ∷ ls)
-        → map unended (cond b ((piece ++ (c ∷ [])) ∷ inclusiveAfter lineFeed [] cs) (inclusiveAfter lineFeed (piece ++ (c ∷ [])) cs))
-        ≡ fromPieces (pushAll piece (cond b ([] ∷ cut isLF cs) (push c (cut isLF cs))))
+    go : (b : Bool) → eqb c lf ≡ b → map unended (inclusive_after line_feed [] cs) ≡ from_pieces (cut is_lf cs)
+        → (T (not (is_lf c)) → map unended (inclusive_after line_feed (piece ++ (c ∷ [])) cs) ≡ from_pieces (push_all (piece ++ (c ∷ [])) (cut is_lf cs)))
+        → (l : List ℕ) × (ls : List (List ℕ)) × (cut is_lf cs ≡ l ∷ ls)
+        → map unended (cond b ((piece ++ (c ∷ [])) ∷ inclusive_after line_feed [] cs) (inclusive_after line_feed (piece ++ (c ∷ [])) cs))
+        ≡ from_pieces (push_all piece (cond b ([] ∷ cut is_lf cs) (push c (cut is_lf cs))))
     go true e ih jh (l, ls, i) =
-        ap₂ (λ x y. x ∷ y) (ap (λ k. unended (piece ++ (k ∷ []))) (eqb-true c lf e) ∙ unended-is piece) ih
-        ∙ ap (λ x. dropCR piece ∷ fromPieces x) i
-        ∙ sym (ap fromPieces (pushAll-first isLF piece (cut isLF cs) ∙ ap (λ x. piece ∷ x) i))
-    go false e ih jh q = jh (false→T _ e) ∙ ap fromPieces (pushAll-snoc piece c (cut isLF cs))
+        ap₂ (λ x y. x ∷ y) (ap (λ k. unended (piece ++ (k ∷ []))) (eqb-true c lf e) ∙ unended_is piece) ih
+        ∙ ap (λ x. drop_cr piece ∷ from_pieces x) i
+        ∙ sym (ap from_pieces (push_all_first is_lf piece (cut is_lf cs) ∙ ap (λ x. piece ∷ x) i))
+    go false e ih jh q = jh (false→T _ e) ∙ ap from_pieces (push_all_snoc piece c (cut is_lf cs))
 
-pub lines_are : (cs : List ℕ) → lines cs ≡ fromPieces (cut isLF cs)
+pub lines_are : (cs : List ℕ) → lines cs ≡ from_pieces (cut is_lf cs)
 unfolding lines
 lines_are cs = lines_from [] cs tt
 
 -- ---- a CR at a line's end does not matter
 
-dropCR-view : (l : List ℕ) → (dropCR l ≡ l) ⊎ (l ≡ dropCR l ++ (cr ∷ []))
-dropCR-view [] = inl refl
-dropCR-view (c ∷ []) = go (eqb c cr) refl
+drop_cr_view : (l : List ℕ) → (drop_cr l ≡ l) ⊎ (l ≡ drop_cr l ++ (cr ∷ []))
+drop_cr_view [] = inl refl
+drop_cr_view (c ∷ []) = go (eqb c cr) refl
   where
     go : (b : Bool) → eqb c cr ≡ b → (cond b [] (c ∷ []) ≡ c ∷ []) ⊎ (c ∷ [] ≡ cond b [] (c ∷ []) ++ (cr ∷ []))
     go true e = inr (ap (λ k. k ∷ []) (eqb-true c cr e))
     go false e = inl refl
-dropCR-view (c ∷ d ∷ l) = go (dropCR-view (d ∷ l))
+drop_cr_view (c ∷ d ∷ l) = go (drop_cr_view (d ∷ l))
   where
-    go : (dropCR (d ∷ l) ≡ d ∷ l) ⊎ (d ∷ l ≡ dropCR (d ∷ l) ++ (cr ∷ [])) → (c ∷ dropCR (d ∷ l) ≡ c ∷ d ∷ l) ⊎ (c ∷ d ∷ l ≡ c ∷ (dropCR (d ∷ l) ++ (cr ∷ [])))
+    go : (drop_cr (d ∷ l) ≡ d ∷ l) ⊎ (d ∷ l ≡ drop_cr (d ∷ l) ++ (cr ∷ [])) → (c ∷ drop_cr (d ∷ l) ≡ c ∷ d ∷ l) ⊎ (c ∷ d ∷ l ≡ c ∷ (drop_cr (d ∷ l) ++ (cr ∷ [])))
     go (inl e) = inl (ap (λ l. c ∷ l) e)
     go (inr e) = inr (ap (λ l. c ∷ l) e)
 
-body-cr : (m core : List ℕ) → Body m core → Body (m ++ (cr ∷ [])) core
-unfolding isWhite
-body-cr m core b = go b.rest refl b.isComment
+body_cr : (m core : List ℕ) → Body m core → Body (m ++ (cr ∷ [])) core
+unfolding is_white
+body_cr m core b = go b.rest refl b.is_comment
   where
     go : (rest : List ℕ) → b.rest ≡ rest → T (comment rest) → Body (m ++ (cr ∷ [])) core
     go [] e t =
@@ -306,12 +306,12 @@ body-cr m core b = go b.rest refl b.isComment
           after = b.after ++ (cr ∷ []);
           rest = [];
           whole = ap (λ l. l ++ (cr ∷ [])) (b.whole ∙ ap (λ r. b.before ++ (core ++ (b.after ++ r))) e) ∙ simp (append_assoc, append-nil);
-          whiteBefore = b.whiteBefore;
-          noHash = b.noHash;
+          white_before = b.white_before;
+          no_hash = b.no_hash;
           opens = b.opens;
           closes = b.closes;
-          whiteAfter = all_append isWhite b.after (cr ∷ []) b.whiteAfter tt;
-          isComment = tt;
+          white_after = all_append is_white b.after (cr ∷ []) b.white_after tt;
+          is_comment = tt;
         }
     go (c ∷ rest) e t =
         record {
@@ -319,32 +319,32 @@ body-cr m core b = go b.rest refl b.isComment
           after = b.after;
           rest = (c ∷ rest) ++ (cr ∷ []);
           whole = ap (λ l. l ++ (cr ∷ [])) (b.whole ∙ ap (λ r. b.before ++ (core ++ (b.after ++ r))) e) ∙ simp append_assoc;
-          whiteBefore = b.whiteBefore;
-          noHash = b.noHash;
+          white_before = b.white_before;
+          no_hash = b.no_hash;
           opens = b.opens;
           closes = b.closes;
-          whiteAfter = b.whiteAfter;
-          isComment = t;
+          white_after = b.white_after;
+          is_comment = t;
         }
 
-pub body-dropCR : (l : List ℕ) → body (dropCR l) ≡ body l
-body-dropCR l = go (dropCR-view l)
+pub body_drop_cr : (l : List ℕ) → body (drop_cr l) ≡ body l
+body_drop_cr l = go (drop_cr_view l)
   where
-    go : (dropCR l ≡ l) ⊎ (l ≡ dropCR l ++ (cr ∷ [])) → body (dropCR l) ≡ body l
+    go : (drop_cr l ≡ l) ⊎ (l ≡ drop_cr l ++ (cr ∷ [])) → body (drop_cr l) ≡ body l
     go (inl e) = ap body e
     go (inr e) =
-        let (core, b) = has_body (dropCR l) in
-        body_is (dropCR l) core b ∙ sym (ap body e ∙ body_is (dropCR l ++ (cr ∷ [])) core (body-cr (dropCR l) core b))
+        let (core, b) = has_body (drop_cr l) in
+        body_is (drop_cr l) core b ∙ sym (ap body e ∙ body_is (drop_cr l ++ (cr ∷ [])) core (body_cr (drop_cr l) core b))
 
 -- what the loop looks at is the paper's body
-pub trimmed-body : (l : List ℕ) → trim (until line.isHash l) ≡ body l
+pub trimmed_body : (l : List ℕ) → trim (until line.is_hash l) ≡ body l
 unfolding body
-trimmed-body l = trim-is (until line.isHash l)
+trimmed_body l = trim_is (until line.is_hash l)
 
 -- a body holds no LF where its line holds none
-until-all : (p q : ℕ → Bool) (cs : List ℕ) → T (all q cs) → T (all q (until p cs))
-until-all p q [] a = tt
-until-all p q (c ∷ cs) a = go (p c) (until-all p q cs h.1)
+until_all : (p q : ℕ → Bool) (cs : List ℕ) → T (all q cs) → T (all q (until p cs))
+until_all p q [] a = tt
+until_all p q (c ∷ cs) a = go (p c) (until_all p q cs h.1)
   where
     h : T (q c) × T (all q cs)
     h = and_yes (q c) (all q cs) a
@@ -353,27 +353,27 @@ until-all p q (c ∷ cs) a = go (p c) (until-all p q cs h.1)
     go true i = tt
     go false i = yes_and (q c) (all q (until p cs)) h.0 i
 
-trimStart-all : (p q : ℕ → Bool) (cs : List ℕ) → T (all q cs) → T (all q (lists.trimStart p cs))
-trimStart-all p q [] a = tt
-trimStart-all p q (c ∷ cs) a = go (p c) (trimStart-all p q cs (and_yes (q c) (all q cs) a).1)
+trim_start_all : (p q : ℕ → Bool) (cs : List ℕ) → T (all q cs) → T (all q (lists.trim_start p cs))
+trim_start_all p q [] a = tt
+trim_start_all p q (c ∷ cs) a = go (p c) (trim_start_all p q cs (and_yes (q c) (all q cs) a).1)
   where
-    go : (b : Bool) → T (all q (lists.trimStart p cs)) → T (all q (cond b (lists.trimStart p cs) (c ∷ cs)))
+    go : (b : Bool) → T (all q (lists.trim_start p cs)) → T (all q (cond b (lists.trim_start p cs) (c ∷ cs)))
     go true i = i
     go false i = a
 
-trimEnd-all : (p q : ℕ → Bool) (cs : List ℕ) → T (all q cs) → T (all q (lists.trimEnd p cs))
-trimEnd-all p q [] a = tt
-trimEnd-all p q (c ∷ cs) a = go (p c && empty (lists.trimEnd p cs)) (trimEnd-all p q cs h.1)
+trim_end_all : (p q : ℕ → Bool) (cs : List ℕ) → T (all q cs) → T (all q (lists.trim_end p cs))
+trim_end_all p q [] a = tt
+trim_end_all p q (c ∷ cs) a = go (p c && empty (lists.trim_end p cs)) (trim_end_all p q cs h.1)
   where
     h : T (q c) × T (all q cs)
     h = and_yes (q c) (all q cs) a
 
-    go : (b : Bool) → T (all q (lists.trimEnd p cs)) → T (all q (cond b [] (c ∷ lists.trimEnd p cs)))
+    go : (b : Bool) → T (all q (lists.trim_end p cs)) → T (all q (cond b [] (c ∷ lists.trim_end p cs)))
     go true i = tt
-    go false i = yes_and (q c) (all q (lists.trimEnd p cs)) h.0 i
+    go false i = yes_and (q c) (all q (lists.trim_end p cs)) h.0 i
 
-pub body-noLF : (l : List ℕ) → T (noLF l) → T (noLF (body l))
+pub body_no_lf : (l : List ℕ) → T (no_lf l) → T (no_lf (body l))
 unfolding body
-body-noLF l n =
-    trimEnd-all isWhite (λ c. not (isLF c)) (lists.trimStart isWhite (until line.isHash l))
-    (trimStart-all isWhite (λ c. not (isLF c)) (until line.isHash l) (until-all line.isHash (λ c. not (isLF c)) l n))
+body_no_lf l n =
+    trim_end_all is_white (λ c. not (is_lf c)) (lists.trim_start is_white (until line.is_hash l))
+    (trim_start_all is_white (λ c. not (is_lf c)) (until line.is_hash l) (until_all line.is_hash (λ c. not (is_lf c)) l n))

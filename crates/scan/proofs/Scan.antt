@@ -1,10 +1,10 @@
 -- The scans of a line: what a byte or a gap in front does to the runs, at places of a text.
 -- Assumes nothing.
-use Rattle.scan.proofs.Spread.{until-run, until_stop, trimEnd-gone, trimEnd-stay}
-use Rattle.text.specs.Answers.{whiteWidth}
-use Rattle.scan.specs.Marks.{Mark, inGap, hashMark, marks, gapWidth, gapByte}
-use Rattle.scan.proofs.Widths.{white-le, white-none, gap-le, gap-ascii, gap-high}
-use Rattle.scan.proofs.Bridge.{tag, marks-gap, marks-solid, marks-nil}
+use Rattle.scan.proofs.Spread.{until_run, until_stop, trim_end_gone, trim_end_stay}
+use Rattle.text.specs.Answers.{white_width}
+use Rattle.scan.specs.Marks.{Mark, in_gap, hash_mark, marks, gap_width, gap_byte}
+use Rattle.scan.proofs.Widths.{white_le, white_none, gap_le, gap_ascii, gap_high}
+use Rattle.scan.proofs.Bridge.{tag, marks_gap, marks_solid, marks_nil}
 use Prim.Native.Nat.{ℕ, zero, suc, ◌+◌, ◌-◌, ◌≤◌, ◌<◌}
 use native.Mathlib.Omega.{arith}
 use mathlib.Core.Path.{◌≡◌, refl, sym, ap, ap₂, ◌∙◌}
@@ -15,130 +15,130 @@ use lib.Dec.{T, eqb}
 use lib.ListN.{length, take, drop, get_or, length-append, take-append-drop}
 use lib.Seq.{drop-drop, length-take-le}
 use borrow.Author.Tests.{ne_eqb}
-use Rattle.paper.specs.Text.Scalar.{isWhite, hash}
-use Rattle.paper.specs.Lists.{all, full, empty, until, trimEnd}
+use Rattle.paper.specs.Text.Scalar.{is_white, hash}
+use Rattle.paper.specs.Lists.{all, full, empty, until, trim_end}
 use Rattle.paper.proofs.Lists.Facts.{un}
 use Rattle.paper.proofs.Lists.Parts.{nothing, uncons, part_length}
-use Rattle.scan.specs.Answer.{gapRun, wordRun, solid}
+use Rattle.scan.specs.Answer.{gap_run, word_run, solid}
 
 -- ---- what stands in front of the marks
 
-tag-length : (w : Bool) (s : List ℕ) → length (tag w s) ≡ length s
-tag-length w [] = refl
-tag-length w (b ∷ s) = ap suc (tag-length w s)
+tag_length : (w : Bool) (s : List ℕ) → length (tag w s) ≡ length s
+tag_length w [] = refl
+tag_length w (b ∷ s) = ap suc (tag_length w s)
 
-tag-gap : (s : List ℕ) → T (all inGap (tag true s))
-tag-gap [] = tt
-tag-gap (b ∷ s) = tag-gap s
+tag_gap : (s : List ℕ) → T (all in_gap (tag true s))
+tag_gap [] = tt
+tag_gap (b ∷ s) = tag_gap s
 
-tag-un : (s : List ℕ) → T (all (un (un inGap)) (tag true s))
-tag-un [] = tt
-tag-un (b ∷ s) = tag-un s
+tag_un : (s : List ℕ) → T (all (un (un in_gap)) (tag true s))
+tag_un [] = tt
+tag_un (b ∷ s) = tag_un s
 
-tag-hash : (s : List ℕ) → T (all (un hashMark) (tag true s))
-tag-hash [] = tt
-tag-hash (b ∷ s) = go (eqb b hash) (tag-hash s)
+tag_hash : (s : List ℕ) → T (all (un hash_mark) (tag true s))
+tag_hash [] = tt
+tag_hash (b ∷ s) = go (eqb b hash) (tag_hash s)
   where
-    go : (x : Bool) → T (all (un hashMark) (tag true s)) → T (not (x && false) && all (un hashMark) (tag true s))
+    go : (x : Bool) → T (all (un hash_mark) (tag true s)) → T (not (x && false) && all (un hash_mark) (tag true s))
     go true t = t
     go false t = t
 
 module _ (g : List ℕ → ℕ) where
-  pub gap-front : (s : List ℕ) → g s ≤ length s → 0 < g s → marks g s ≡ tag true (take (g s) s) ++ marks g (drop (g s) s)
-  gap-front [] h k = absurd (let z : g [] ≤ 0 = h in omega arith)
-  gap-front (b ∷ t) h k = go (g (b ∷ t)) refl h k
+  pub gap_front : (s : List ℕ) → g s ≤ length s → 0 < g s → marks g s ≡ tag true (take (g s) s) ++ marks g (drop (g s) s)
+  gap_front [] h k = absurd (let z : g [] ≤ 0 = h in omega arith)
+  gap_front (b ∷ t) h k = go (g (b ∷ t)) refl h k
     where
       go : (w : ℕ) → g (b ∷ t) ≡ w → w ≤ length (b ∷ t) → 0 < w → marks g (b ∷ t) ≡ tag true (take w (b ∷ t)) ++ marks g (drop w (b ∷ t))
       go zero e h k = absurd (omega arith)
       go (suc n) e h k =
           let m : n ≤ length t = omega arith in
           let f : b ∷ (take n t ++ drop n t) ≡ b ∷ t = ap (λ l. b ∷ l) (take-append-drop n t) in
-          ap (marks g) (sym f) ∙ marks-gap g b (take n t) (drop n t) (ap g f ∙ e ∙ ap suc (sym (length-take-le n t m)))
+          ap (marks g) (sym f) ∙ marks_gap g b (take n t) (drop n t) (ap g f ∙ e ∙ ap suc (sym (length-take-le n t m)))
 
 -- ---- the runs, by what is in front
 
 module _ (white : Bool) (s : List ℕ) where
-  gaps : 0 < gapWidth white s → marks (gapWidth white) s ≡ tag true (take (gapWidth white s) s) ++ marks (gapWidth white) (drop (gapWidth white s) s)
-  gaps h = gap-front (gapWidth white) s (gap-le white s) h
+  gaps : 0 < gap_width white s → marks (gap_width white) s ≡ tag true (take (gap_width white s) s) ++ marks (gap_width white) (drop (gap_width white s) s)
+  gaps h = gap_front (gap_width white) s (gap_le white s) h
 
-  front_length : length (tag true (take (gapWidth white s) s)) ≡ gapWidth white s
-  front_length = tag-length true (take (gapWidth white s) s) ∙ length-take-le (gapWidth white s) s (gap-le white s)
+  front_length : length (tag true (take (gap_width white s) s)) ≡ gap_width white s
+  front_length = tag_length true (take (gap_width white s) s) ∙ length-take-le (gap_width white s) s (gap_le white s)
 
-  gapRun-on : 0 < gapWidth white s → length (gapRun white s) ≡ gapWidth white s + length (gapRun white (drop (gapWidth white s) s))
-  unfolding gapRun
-  gapRun-on h =
-      let w = gapWidth white s in
-      ap (λ m. length (until (un inGap) m)) (gaps h)
-      ∙ ap length (until-run (un inGap) (tag true (take w s)) (marks (gapWidth white) (drop w s)) (tag-un (take w s)))
-      ∙ length-append (tag true (take w s)) (until (un inGap) (marks (gapWidth white) (drop w s)))
-      ∙ ap (λ n. n + length (until (un inGap) (marks (gapWidth white) (drop w s)))) front_length
+  gap_run_on : 0 < gap_width white s → length (gap_run white s) ≡ gap_width white s + length (gap_run white (drop (gap_width white s) s))
+  unfolding gap_run
+  gap_run_on h =
+      let w = gap_width white s in
+      ap (λ m. length (until (un in_gap) m)) (gaps h)
+      ∙ ap length (until_run (un in_gap) (tag true (take w s)) (marks (gap_width white) (drop w s)) (tag_un (take w s)))
+      ∙ length-append (tag true (take w s)) (until (un in_gap) (marks (gap_width white) (drop w s)))
+      ∙ ap (λ n. n + length (until (un in_gap) (marks (gap_width white) (drop w s)))) front_length
 
-  some-tag : 0 < gapWidth white s → T (full inGap (tag true (take (gapWidth white s) s)))
-  some-tag h = go (take (gapWidth white s) s) (length-take-le (gapWidth white s) s (gap-le white s))
+  some_tag : 0 < gap_width white s → T (full in_gap (tag true (take (gap_width white s) s)))
+  some_tag h = go (take (gap_width white s) s) (length-take-le (gap_width white s) s (gap_le white s))
     where
-      go : (u : List ℕ) → length u ≡ gapWidth white s → T (full inGap (tag true u))
+      go : (u : List ℕ) → length u ≡ gap_width white s → T (full in_gap (tag true u))
       go [] e = absurd (omega arith)
-      go (b ∷ u) e = tag-gap u
+      go (b ∷ u) e = tag_gap u
 
-  wordRun-stop : 0 < gapWidth white s → length (wordRun white s) ≡ 0
-  unfolding wordRun
-  wordRun-stop h =
-      let w = gapWidth white s in
-      ap (λ m. length (until inGap m)) (gaps h) ∙ ap length (until_stop inGap (tag true (take w s)) (marks (gapWidth white) (drop w s)) (some-tag h))
+  word_run_stop : 0 < gap_width white s → length (word_run white s) ≡ 0
+  unfolding word_run
+  word_run_stop h =
+      let w = gap_width white s in
+      ap (λ m. length (until in_gap m)) (gaps h) ∙ ap length (until_stop in_gap (tag true (take w s)) (marks (gap_width white) (drop w s)) (some_tag h))
 
-module _ (white : Bool) (b : ℕ) (t : List ℕ) (h : gapWidth white (b ∷ t) ≡ 0) where
-  gapRun-stop : length (gapRun white (b ∷ t)) ≡ 0
-  unfolding gapRun
-  gapRun-stop = ap (λ m. length (until (un inGap) m)) (marks-solid (gapWidth white) b t h)
+module _ (white : Bool) (b : ℕ) (t : List ℕ) (h : gap_width white (b ∷ t) ≡ 0) where
+  gap_run_stop : length (gap_run white (b ∷ t)) ≡ 0
+  unfolding gap_run
+  gap_run_stop = ap (λ m. length (until (un in_gap) m)) (marks_solid (gap_width white) b t h)
 
-  wordRun-on : length (wordRun white (b ∷ t)) ≡ suc (length (wordRun white t))
-  unfolding wordRun
-  wordRun-on = ap (λ m. length (until inGap m)) (marks-solid (gapWidth white) b t h)
+  word_run_on : length (word_run white (b ∷ t)) ≡ suc (length (word_run white t))
+  unfolding word_run
+  word_run_on = ap (λ m. length (until in_gap m)) (marks_solid (gap_width white) b t h)
 
-gapRun-nil : (white : Bool) → length (gapRun white []) ≡ 0
-unfolding gapRun
-gapRun-nil white = ap (λ m. length (until (un inGap) m)) (marks-nil (gapWidth white))
+gap_run_nil : (white : Bool) → length (gap_run white []) ≡ 0
+unfolding gap_run
+gap_run_nil white = ap (λ m. length (until (un in_gap) m)) (marks_nil (gap_width white))
 
-wordRun-nil : (white : Bool) → length (wordRun white []) ≡ 0
-unfolding wordRun
-wordRun-nil white = ap (λ m. length (until inGap m)) (marks-nil (gapWidth white))
+word_run_nil : (white : Bool) → length (word_run white []) ≡ 0
+unfolding word_run
+word_run_nil white = ap (λ m. length (until in_gap m)) (marks_nil (gap_width white))
 
 -- ---- the same at places of a text
 
 module _ (l : List ℕ) (at end : ℕ) (white : Bool) where
-  pub skip-end : end ≤ at → length (gapRun white (drop at (take end l))) ≡ 0
-  skip-end h = ap (λ s. length (gapRun white s)) (nothing l at end h) ∙ gapRun-nil white
+  pub skip_end : end ≤ at → length (gap_run white (drop at (take end l))) ≡ 0
+  skip_end h = ap (λ s. length (gap_run white s)) (nothing l at end h) ∙ gap_run_nil white
 
-  pub word-stop-end : end ≤ at → length (wordRun white (drop at (take end l))) ≡ 0
-  word-stop-end h = ap (λ s. length (wordRun white s)) (nothing l at end h) ∙ wordRun-nil white
+  pub word_stop_end : end ≤ at → length (word_run white (drop at (take end l))) ≡ 0
+  word_stop_end h = ap (λ s. length (word_run white s)) (nothing l at end h) ∙ word_run_nil white
 
-module _ (l : List ℕ) (at end : ℕ) (white : Bool) (w : ℕ) (e : w ≡ gapWidth white (drop at (take end l))) (k : end ≤ length l) where
-  pub skip-within : w ≤ end - at
-  skip-within = let h = gap-le white (drop at (take end l)) in omega (arith, part_length l at end k)
+module _ (l : List ℕ) (at end : ℕ) (white : Bool) (w : ℕ) (e : w ≡ gap_width white (drop at (take end l))) (k : end ≤ length l) where
+  pub skip_within : w ≤ end - at
+  skip_within = let h = gap_le white (drop at (take end l)) in omega (arith, part_length l at end k)
 
-  pub skip-on : 0 < w → length (gapRun white (drop at (take end l))) ≡ w + length (gapRun white (drop (at + w) (take end l)))
-  skip-on h =
-      let z : 0 < gapWidth white (drop at (take end l)) = omega arith in
-      gapRun-on white (drop at (take end l)) z
-      ∙ ap (λ n. n + length (gapRun white (drop n (drop at (take end l))))) (sym e)
-      ∙ ap (λ s. w + length (gapRun white s)) (drop-drop w at (take end l))
+  pub skip_on : 0 < w → length (gap_run white (drop at (take end l))) ≡ w + length (gap_run white (drop (at + w) (take end l)))
+  skip_on h =
+      let z : 0 < gap_width white (drop at (take end l)) = omega arith in
+      gap_run_on white (drop at (take end l)) z
+      ∙ ap (λ n. n + length (gap_run white (drop n (drop at (take end l))))) (sym e)
+      ∙ ap (λ s. w + length (gap_run white s)) (drop-drop w at (take end l))
 
-  pub skip_stop : at < end → w ≡ 0 → length (gapRun white (drop at (take end l))) ≡ 0
+  pub skip_stop : at < end → w ≡ 0 → length (gap_run white (drop at (take end l))) ≡ 0
   skip_stop h z =
       let u = uncons l at end h k in
       let d = get_or l at 0 in
       let r = drop (at + 1) (take end l) in
-      ap (λ s. length (gapRun white s)) u ∙ gapRun-stop white d r (ap (gapWidth white) (sym u) ∙ sym e ∙ z)
+      ap (λ s. length (gap_run white s)) u ∙ gap_run_stop white d r (ap (gap_width white) (sym u) ∙ sym e ∙ z)
 
-  pub word-stop : 0 < w → length (wordRun white (drop at (take end l))) ≡ 0
-  word-stop h = let z : 0 < gapWidth white (drop at (take end l)) = omega arith in wordRun-stop white (drop at (take end l)) z
+  pub word_stop : 0 < w → length (word_run white (drop at (take end l))) ≡ 0
+  word_stop h = let z : 0 < gap_width white (drop at (take end l)) = omega arith in word_run_stop white (drop at (take end l)) z
 
-  pub word_on : at < end → w ≡ 0 → length (wordRun white (drop at (take end l))) ≡ suc (length (wordRun white (drop (at + 1) (take end l))))
+  pub word_on : at < end → w ≡ 0 → length (word_run white (drop at (take end l))) ≡ suc (length (word_run white (drop (at + 1) (take end l))))
   word_on h z =
       let u = uncons l at end h k in
       let d = get_or l at 0 in
       let r = drop (at + 1) (take end l) in
-      ap (λ s. length (wordRun white s)) u ∙ wordRun-on white d r (ap (gapWidth white) (sym u) ∙ sym e ∙ z)
+      ap (λ s. length (word_run white s)) u ∙ word_run_on white d r (ap (gap_width white) (sym u) ∙ sym e ∙ z)
 
 -- ---- the end of the body
 
@@ -146,115 +146,115 @@ module _ (l : List ℕ) (at end : ℕ) (white : Bool) (w : ℕ) (e : w ≡ gapWi
 unfoldable pub end_of : ℕ → ℕ → List Mark → ℕ
 end_of last at t = cond (empty t) last (at + length t)
 
-pub end-start : (at : ℕ) (t : List Mark) → at + length t ≡ end_of at at t
+pub end_start : (at : ℕ) (t : List Mark) → at + length t ≡ end_of at at t
 unfolding end_of
-end-start at [] = omega arith
-end-start at (x ∷ t) = refl
+end_start at [] = omega arith
+end_start at (x ∷ t) = refl
 
-solid-nil : solid [] ≡ []
+solid_nil : solid [] ≡ []
 unfolding solid
-solid-nil = ap (λ m. trimEnd inGap (until hashMark m)) (marks-nil whiteWidth)
+solid_nil = ap (λ m. trim_end in_gap (until hash_mark m)) (marks_nil white_width)
 
-solid-hash : (t : List ℕ) (b : ℕ) → b ≡ hash → whiteWidth (b ∷ t) ≡ 0 → solid (b ∷ t) ≡ []
+solid_hash : (t : List ℕ) (b : ℕ) → b ≡ hash → white_width (b ∷ t) ≡ 0 → solid (b ∷ t) ≡ []
 unfolding solid
-solid-hash t b e z = ap (λ m. trimEnd inGap (until hashMark m)) (marks-solid whiteWidth b t z) ∙ rw e
+solid_hash t b e z = ap (λ m. trim_end in_gap (until hash_mark m)) (marks_solid white_width b t z) ∙ rw e
 
-solid-on : (t : List ℕ) (b : ℕ) → (b ≡ hash → ⊥) → whiteWidth (b ∷ t) ≡ 0 → solid (b ∷ t) ≡ (b, false) ∷ solid t
+solid_on : (t : List ℕ) (b : ℕ) → (b ≡ hash → ⊥) → white_width (b ∷ t) ≡ 0 → solid (b ∷ t) ≡ (b, false) ∷ solid t
 unfolding solid
-solid-on t b n z = ap (λ m. trimEnd inGap (until hashMark m)) (marks-solid whiteWidth b t z) ∙ rw (ne_eqb b hash n)
+solid_on t b n z = ap (λ m. trim_end in_gap (until hash_mark m)) (marks_solid white_width b t z) ∙ rw (ne_eqb b hash n)
 
-solid-gap : (s : List ℕ) → 0 < whiteWidth s
-    → solid s ≡ trimEnd inGap (tag true (take (whiteWidth s) s) ++ until hashMark (marks whiteWidth (drop (whiteWidth s) s)))
+solid_gap : (s : List ℕ) → 0 < white_width s
+    → solid s ≡ trim_end in_gap (tag true (take (white_width s) s) ++ until hash_mark (marks white_width (drop (white_width s) s)))
 unfolding solid
-solid-gap s h =
-    let w = whiteWidth s in
-    ap (λ m. trimEnd inGap (until hashMark m)) (gap-front whiteWidth s (white-le s) h)
-    ∙ ap (trimEnd inGap) (until-run hashMark (tag true (take w s)) (marks whiteWidth (drop w s)) (tag-hash (take w s)))
+solid_gap s h =
+    let w = white_width s in
+    ap (λ m. trim_end in_gap (until hash_mark m)) (gap_front white_width s (white_le s) h)
+    ∙ ap (trim_end in_gap) (until_run hash_mark (tag true (take w s)) (marks white_width (drop w s)) (tag_hash (take w s)))
 
 -- a gap in front of what is kept counts, one in front of nothing does not
-gap-end : (last at w : ℕ) (u : List Mark) (r : List Mark) → length u ≡ w → T (all inGap u)
-    → end_of last at (trimEnd inGap (u ++ r)) ≡ end_of last (at + w) (trimEnd inGap r)
+gap_end : (last at w : ℕ) (u : List Mark) (r : List Mark) → length u ≡ w → T (all in_gap u)
+    → end_of last at (trim_end in_gap (u ++ r)) ≡ end_of last (at + w) (trim_end in_gap r)
 unfolding end_of
-gap-end last at w u r e a = go (trimEnd inGap r) refl
+gap_end last at w u r e a = go (trim_end in_gap r) refl
   where
-    go : (t : List Mark) → trimEnd inGap r ≡ t → end_of last at (trimEnd inGap (u ++ r)) ≡ end_of last (at + w) (trimEnd inGap r)
-    go [] f = ap (end_of last at) (trimEnd-gone inGap u r a f) ∙ ap (end_of last (at + w)) (sym f)
+    go : (t : List Mark) → trim_end in_gap r ≡ t → end_of last at (trim_end in_gap (u ++ r)) ≡ end_of last (at + w) (trim_end in_gap r)
+    go [] f = ap (end_of last at) (trim_end_gone in_gap u r a f) ∙ ap (end_of last (at + w)) (sym f)
     go (x ∷ t) f =
-        ap (end_of last at) (trimEnd-stay inGap u r t x f) ∙ kept u e ∙ ap (end_of last (at + w)) (sym f)
+        ap (end_of last at) (trim_end_stay in_gap u r t x f) ∙ kept u e ∙ ap (end_of last (at + w)) (sym f)
       where
         kept : (u : List Mark) → length u ≡ w → end_of last at (u ++ (x ∷ t)) ≡ at + w + length (x ∷ t)
         kept [] e = omega arith
         kept (y ∷ u) e = let q = length-append u (x ∷ t) in omega arith
 
 module _ (l : List ℕ) (at end last : ℕ) where
-  pub solid-end : end ≤ at → end_of last at (solid (drop at (take end l))) ≡ last
+  pub solid_end : end ≤ at → end_of last at (solid (drop at (take end l))) ≡ last
   unfolding end_of
-  solid-end h = ap (λ s. end_of last at (solid s)) (nothing l at end h) ∙ ap (end_of last at) solid-nil
+  solid_end h = ap (λ s. end_of last at (solid s)) (nothing l at end h) ∙ ap (end_of last at) solid_nil
 
-  module _ (w : ℕ) (g : w ≡ gapWidth true (drop at (take end l))) (k : end ≤ length l) where
-    e : w ≡ whiteWidth (drop at (take end l))
-    unfolding gapWidth
+  module _ (w : ℕ) (g : w ≡ gap_width true (drop at (take end l))) (k : end ≤ length l) where
+    e : w ≡ white_width (drop at (take end l))
+    unfolding gap_width
     e = g
 
-    pub white-within : w ≤ end - at
-    white-within = let f = e in let h = white-le (drop at (take end l)) in omega (arith, part_length l at end k)
+    pub white_within : w ≤ end - at
+    white_within = let f = e in let h = white_le (drop at (take end l)) in omega (arith, part_length l at end k)
 
-    pub solid-skip : 0 < w → end_of last at (solid (drop at (take end l))) ≡ end_of last (at + w) (solid (drop (at + w) (take end l)))
+    pub solid_skip : 0 < w → end_of last at (solid (drop at (take end l))) ≡ end_of last (at + w) (solid (drop (at + w) (take end l)))
     unfolding solid
-    solid-skip h =
+    solid_skip h =
         let s = drop at (take end l) in
-        let z : 0 < whiteWidth s = omega (arith, e) in
-        let m : length (tag true (take (whiteWidth s) s)) ≡ w = tag-length true (take (whiteWidth s) s) ∙ length-take-le (whiteWidth s) s (white-le s) ∙ sym e in
-        ap (end_of last at) (solid-gap s z)
-        ∙ gap-end last at w (tag true (take (whiteWidth s) s)) (until hashMark (marks whiteWidth (drop (whiteWidth s) s))) m (tag-gap (take (whiteWidth s) s))
+        let z : 0 < white_width s = omega (arith, e) in
+        let m : length (tag true (take (white_width s) s)) ≡ w = tag_length true (take (white_width s) s) ∙ length-take-le (white_width s) s (white_le s) ∙ sym e in
+        ap (end_of last at) (solid_gap s z)
+        ∙ gap_end last at w (tag true (take (white_width s) s)) (until hash_mark (marks white_width (drop (white_width s) s))) m (tag_gap (take (white_width s) s))
         ∙ ap (λ n. end_of last (at + w) (solid (drop n s))) (sym e)
         ∙ ap (λ t. end_of last (at + w) (solid t)) (drop-drop w at (take end l))
 
     module _ (h : at < end) (z : w ≡ 0) where
-      zero-here : whiteWidth (get_or l at 0 ∷ drop (at + 1) (take end l)) ≡ 0
-      zero-here = ap whiteWidth (sym (uncons l at end h k)) ∙ sym e ∙ z
+      zero_here : white_width (get_or l at 0 ∷ drop (at + 1) (take end l)) ≡ 0
+      zero_here = ap white_width (sym (uncons l at end h k)) ∙ sym e ∙ z
 
-      pub solid-stop : get_or l at 0 ≡ hash → end_of last at (solid (drop at (take end l))) ≡ last
+      pub solid_stop : get_or l at 0 ≡ hash → end_of last at (solid (drop at (take end l))) ≡ last
       unfolding end_of
-      solid-stop q =
+      solid_stop q =
           ap (λ s. end_of last at (solid s)) (uncons l at end h k)
-          ∙ ap (end_of last at) (solid-hash (drop (at + 1) (take end l)) (get_or l at 0) q zero-here)
+          ∙ ap (end_of last at) (solid_hash (drop (at + 1) (take end l)) (get_or l at 0) q zero_here)
 
-      pub solid-step : (get_or l at 0 ≡ hash → ⊥) → end_of last at (solid (drop at (take end l))) ≡ end_of (at + 1) (at + 1) (solid (drop (at + 1) (take end l)))
+      pub solid_step : (get_or l at 0 ≡ hash → ⊥) → end_of last at (solid (drop at (take end l))) ≡ end_of (at + 1) (at + 1) (solid (drop (at + 1) (take end l)))
       unfolding end_of
-      solid-step q =
+      solid_step q =
           let t = solid (drop (at + 1) (take end l)) in
           let m : at + suc (length t) ≡ at + 1 + length t = omega arith in
           ap (λ s. end_of last at (solid s)) (uncons l at end h k)
-          ∙ ap (end_of last at) (solid-on (drop (at + 1) (take end l)) (get_or l at 0) q zero-here) ∙ m ∙ end-start (at + 1) t
+          ∙ ap (end_of last at) (solid_on (drop (at + 1) (take end l)) (get_or l at 0) q zero_here) ∙ m ∙ end_start (at + 1) t
 
 -- ---- the width of a gap at a place
 
 module _ (l : List ℕ) (at end : ℕ) (white : Bool) where
   module _ (h : at < end) (k : end ≤ length l) where
-    pub width-ascii : get_or l at 0 < 0x80 → {x y : Bool} → x ≡ gapByte white (get_or l at 0) → x ≡ y → cond y 1 0 ≡ gapWidth white (drop at (take end l))
-    width-ascii m {x} {y} e f =
+    pub width_ascii : get_or l at 0 < 0x80 → {x y : Bool} → x ≡ gap_byte white (get_or l at 0) → x ≡ y → cond y 1 0 ≡ gap_width white (drop at (take end l))
+    width_ascii m {x} {y} e f =
         let q : get_or l at 0 ≤ 0x7F = omega arith in
-        ap (λ b. cond b 1 0) (sym f ∙ e) ∙ sym (gap-ascii white (get_or l at 0) (drop (at + 1) (take end l)) q)
-        ∙ ap (gapWidth white) (sym (uncons l at end h k))
+        ap (λ b. cond b 1 0) (sym f ∙ e) ∙ sym (gap_ascii white (get_or l at 0) (drop (at + 1) (take end l)) q)
+        ∙ ap (gap_width white) (sym (uncons l at end h k))
 
-    pub width-other : 0x80 ≤ get_or l at 0 → (get_or l at 0 ≡ 0xC2 → ⊥) → (get_or l at 0 < 0xE1) ⊎ (0xE3 < get_or l at 0) → white ≡ true
-        → 0 ≡ gapWidth white (drop at (take end l))
-    unfolding gapWidth
-    width-other m f g e = sym (ap₂ gapWidth e (uncons l at end h k) ∙ white-none (get_or l at 0) (drop (at + 1) (take end l)) m f g)
+    pub width_other : 0x80 ≤ get_or l at 0 → (get_or l at 0 ≡ 0xC2 → ⊥) → (get_or l at 0 < 0xE1) ⊎ (0xE3 < get_or l at 0) → white ≡ true
+        → 0 ≡ gap_width white (drop at (take end l))
+    unfolding gap_width
+    width_other m f g e = sym (ap₂ gap_width e (uncons l at end h k) ∙ white_none (get_or l at 0) (drop (at + 1) (take end l)) m f g)
 
-    pub width-none : 0x80 ≤ get_or l at 0 → white ≡ false → 0 ≡ gapWidth white (drop at (take end l))
-    width-none m e =
+    pub width_none : 0x80 ≤ get_or l at 0 → white ≡ false → 0 ≡ gap_width white (drop at (take end l))
+    width_none m e =
         sym
-        (ap₂ gapWidth e (uncons l at end h k) ∙ gap-high (get_or l at 0) (drop (at + 1) (take end l)) m)
+        (ap₂ gap_width e (uncons l at end h k) ∙ gap_high (get_or l at 0) (drop (at + 1) (take end l)) m)
 
-  pub width-white : white ≡ true → {w : ℕ} → w ≡ whiteWidth (drop at (take end l)) → w ≡ gapWidth white (drop at (take end l))
-  unfolding gapWidth
-  width-white e f = f ∙ ap (λ b. gapWidth b (drop at (take end l))) (sym e)
+  pub width_white : white ≡ true → {w : ℕ} → w ≡ white_width (drop at (take end l)) → w ≡ gap_width white (drop at (take end l))
+  unfolding gap_width
+  width_white e f = f ∙ ap (λ b. gap_width b (drop at (take end l))) (sym e)
 
-pub width-hash : (l : List ℕ) (at end : ℕ) → at < end → end ≤ length l → get_or l at 0 ≡ hash → 0 ≡ gapWidth true (drop at (take end l))
-unfolding isWhite
-width-hash l at end h k e =
+pub width_hash : (l : List ℕ) (at end : ℕ) → at < end → end ≤ length l → get_or l at 0 ≡ hash → 0 ≡ gap_width true (drop at (take end l))
+unfolding is_white
+width_hash l at end h k e =
     let q : get_or l at 0 ≤ 0x7F = omega arith in
     sym
-    (ap (gapWidth true) (uncons l at end h k) ∙ gap-ascii true (get_or l at 0) (drop (at + 1) (take end l)) q ∙ ap (λ b. cond (isWhite b) 1 0) e)
+    (ap (gap_width true) (uncons l at end h k) ∙ gap_ascii true (get_or l at 0) (drop (at + 1) (take end l)) q ∙ ap (λ b. cond (is_white b) 1 0) e)

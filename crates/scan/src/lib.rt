@@ -3,8 +3,8 @@
 // and `entry`, which walks the names of a range line.
 ghost use Rattle.std.specs.Prelude.{◌≡◌, ◌+◌, ◌<◌, length, take, drop};
 ghost use Rattle.numeral.specs.Asked.{Least};
-ghost use Rattle.scan.specs.Marks.{gapByte, gapWidth};
-ghost use Rattle.scan.specs.Answer.{gapRun, wordRun, solid, NextWord, Body};
+ghost use Rattle.scan.specs.Marks.{gap_byte, gap_width};
+ghost use Rattle.scan.specs.Answer.{gap_run, word_run, solid, NextWord, Body};
 ghost use Rattle.scan.specs.Asked.{Inside, Wide};
 
 const TAB: u8 = 0x09;
@@ -37,7 +37,7 @@ pub struct Part {
 // An ASCII character that stands between words: TAB, FF, CR and space in either kind of line, LF and VT as White_Space only.
 fn is_gap(b: u8, white: bool) -> bool
     requires { b < 0x80 }
-    ensures { result ≡ gapByte white b }
+    ensures { result ≡ gap_byte white b }
 {
     match b {
         TAB | FF | CR | b' ' => true,
@@ -49,7 +49,7 @@ fn is_gap(b: u8, white: bool) -> bool
 // How many bytes of a gap stand at `at`, where no ASCII character does: those of White_Space. The scans see to ASCII themselves.
 fn wide_gap(text: &[u8], at: usize, end: usize, white: bool) -> usize
     requires { Wide text.now at end }
-    ensures { result ≡ gapWidth white (drop at (take end text.now)) }
+    ensures { result ≡ gap_width white (drop at (take end text.now)) }
 {
     if white {
         return match text[at] {
@@ -63,7 +63,7 @@ fn wide_gap(text: &[u8], at: usize, end: usize, white: bool) -> usize
 // Past the gap at `start`.
 fn skip_gap(text: &[u8], start: usize, end: usize, white: bool) -> usize
     requires { Inside text.now start end }
-    ensures { result ≡ start + length (gapRun white (drop start (take end text.now))) }
+    ensures { result ≡ start + length (gap_run white (drop start (take end text.now))) }
 {
     let mut at = start;
     while at < end {
@@ -88,7 +88,7 @@ fn skip_gap(text: &[u8], start: usize, end: usize, white: bool) -> usize
 // Past the word at `start`.
 fn word_end(text: &[u8], start: usize, end: usize, white: bool) -> usize
     requires { Inside text.now start end }
-    ensures { result ≡ start + length (wordRun white (drop start (take end text.now))) }
+    ensures { result ≡ start + length (word_run white (drop start (take end text.now))) }
 {
     let mut at = start;
     while at < end {

@@ -16,25 +16,25 @@ pub record Searching (names : List (List ℕ)) (n : List ℕ) (i : ℕ) (rest : 
   pub some : any (same n) rest ≡ any (same n) names
   pub place : i + position_of same n rest ≡ position_of same n names
 
-pub search-start : (names : List (List ℕ)) (n : List ℕ) → Searching names n 0 names
-search-start names n = record { some = refl; place = omega arith }
+pub search_start : (names : List (List ℕ)) (n : List ℕ) → Searching names n 0 names
+search_start names n = record { some = refl; place = omega arith }
 
 module _ {names : List (List ℕ)} {n : List ℕ} {i : ℕ} {rest : List (List ℕ)} (z : Searching names n i rest) where
   module _ (x : List ℕ) (more : List (List ℕ)) (e : rest ≡ x ∷ more) where
-    pub search-hit : true ≡ same n x → Finds names n (At i)
-    search-hit h =
+    pub search_hit : true ≡ same n x → Finds names n (At i)
+    search_hit h =
         let p : position_of same n rest ≡ 0 = ap (position_of same n) e ∙ ap (λ b. cond b zero (suc (position_of same n more))) (sym h) in
         let q = z.place in
         (sym z.some ∙ ap (any (same n)) e ∙ ap (λ b. b || any (same n) more) (sym h), omega arith)
 
-    pub search-on : false ≡ same n x → Searching names n (i + 1) more
-    search-on h =
+    pub search_on : false ≡ same n x → Searching names n (i + 1) more
+    search_on h =
         let p : position_of same n rest ≡ suc (position_of same n more) = ap (position_of same n) e ∙ ap (λ b. cond b zero (suc (position_of same n more))) (sym h) in
         let q = z.place in
         record { some = ap (λ b. b || any (same n) more) h ∙ ap (any (same n)) (sym e) ∙ z.some; place = omega (arith, add-one i) }
 
-  pub search-done : rest ≡ [] → Finds names n Nothing
-  search-done e = sym z.some ∙ ap (any (same n)) e
+  pub search_done : rest ≡ [] → Finds names n Nothing
+  search_done e = sym z.some ∙ ap (any (same n)) e
 
-pub finds-as : (names : List (List ℕ)) (n : List ℕ) (s : Found) {r : Found} → r ≡ s → Finds names n r → Finds names n s
-finds-as names n s e h = subst (λ x. Finds names n x) e h
+pub finds_as : (names : List (List ℕ)) (n : List ℕ) (s : Found) {r : Found} → r ≡ s → Finds names n r → Finds names n s
+finds_as names n s e h = subst (λ x. Finds names n x) e h

@@ -1,28 +1,28 @@
 -- The names that a store and its slots lay out while a text is read, and what finding one there promises.
 -- Assumes nothing.
 use Rattle.std.specs.Prelude.{ℕ, ◌≤◌, ◌<◌, ◌≡◌, Bool, List, [], map, length, get_or, set}
-use Rattle.paper.specs.Sizes.{maxCategories, maxNameBytes}
+use Rattle.paper.specs.Sizes.{max_categories, max_name_bytes}
 use Rattle.paper.specs.Lists.{same, position_of, joined}
-use Rattle.paper.specs.CharDef.Reading.{nameBytes}
-use Rattle.paper.specs.Tables.Layout.{nameSlots}
+use Rattle.paper.specs.CharDef.Reading.{name_bytes}
+use Rattle.paper.specs.Tables.Layout.{name_slots}
 use Rattle.paper.specs.Tables.Lent.{padded}
 use Rattle.seek.specs.Finds.{Finds}
 use Rattle.seek.specs.declared.Found.{Found}
-use Rattle.slot.specs.Slots.{slotWord, withWord, withHint, hintsOf, slotted}
+use Rattle.slot.specs.Slots.{slot_word, with_word, with_hint, hints_of, slotted}
 
 -- a store and slots that hold these names and no more, none twice: one behind another from 0, in order, and zero after them; and their hints
 pub record Laid (names : List (List ℕ)) (store slots : List ℕ) (count bytes : ℕ) : Type 0 where
-  pub count-is : count ≡ length names
-  pub bytes-is : bytes ≡ nameBytes names
-  pub few : count ≤ maxCategories
-  pub short : bytes ≤ maxNameBytes
+  pub count_is : count ≡ length names
+  pub bytes_is : bytes ≡ name_bytes names
+  pub few : count ≤ max_categories
+  pub short : bytes ≤ max_name_bytes
   pub single : (i : ℕ) → i < length names → position_of same (get_or names i []) names ≡ i
-  pub stored : store ≡ padded maxNameBytes (joined names)
-  pub in-slots : slots ≡ slotted (hintsOf names) (padded maxCategories (map slotWord (nameSlots 0 (map length names))))
+  pub stored : store ≡ padded max_name_bytes (joined names)
+  pub in_slots : slots ≡ slotted (hints_of names) (padded max_categories (map slot_word (name_slots 0 (map length names))))
 
 -- all slots are there, and a part of the text to seek
 abbrev pub Sought : (slots text : List ℕ) (start end : ℕ) → Type 0
-Sought slots text start end = (maxCategories ≤ length slots) × ((start ≤ end) × (end ≤ length text))
+Sought slots text start end = (max_categories ≤ length slots) × ((start ≤ end) × (end ≤ length text))
 
 -- whether n is the name of number i
 abbrev pub Tells : (store slots n : List ℕ) (i : ℕ) → Bool → Type 0
@@ -34,4 +34,4 @@ FindsIn store slots count n r = (names : List (List ℕ)) (bytes : ℕ) → Laid
 -- slot `count` has this word, and the slot at a place this number as its hint
 abbrev pub Added : (slots : List ℕ) (count word place : ℕ) (after : List ℕ) → Type 0
 Added slots count word place after =
-    (middle : List ℕ) → middle ≡ set slots count (withWord word (get_or slots count 0)) → after ≡ set middle place (withHint count (get_or middle place 0))
+    (middle : List ℕ) → middle ≡ set slots count (with_word word (get_or slots count 0)) → after ≡ set middle place (with_hint count (get_or middle place 0))

@@ -1,8 +1,8 @@
 // The names that were read so far in a text: all their bytes stand in one store, one behind another, and a slot for each name says
 // where. Each slot has room for a hint besides, by which a name is found without trying all. All slots are written out in the end.
 ghost use Rattle.std.specs.Prelude.{◌≡◌, ◌+◌, ◌*◌, ◌-◌, ◌/◌, ◌%◌, ◌≤◌, ◌<◌, length, take, drop, get_or, set};
-ghost use Rattle.paper.specs.Sizes.{maxCategories, maxNameBytes};
-ghost use Rattle.slot.specs.Slots.{slotUnit, hintUnit, withWord, withHint, hintOf, written};
+ghost use Rattle.paper.specs.Sizes.{max_categories, max_name_bytes};
+ghost use Rattle.slot.specs.Slots.{slot_unit, hint_unit, with_word, with_hint, hint_of, written};
 ghost use Rattle.slot.specs.Laid.{Sought, Tells, FindsIn, Added};
 
 use paper::MAX_CATEGORIES;
@@ -20,21 +20,21 @@ const HINT_UNIT: u64 = 4294967296;
 const HINTS: u32 = 512;
 
 fn slot_start(slot: u64) -> usize
-    ensures { result ≡ slot % hintUnit / slotUnit }
+    ensures { result ≡ slot % hint_unit / slot_unit }
 {
     (slot % HINT_UNIT / SLOT_UNIT) as usize
 }
 
 fn slot_len(slot: u64) -> usize
-    ensures { result ≡ slot % slotUnit }
+    ensures { result ≡ slot % slot_unit }
 {
     (slot % SLOT_UNIT) as usize
 }
 
 // The number that a name's slot says below its hint.
 fn word_of(at: usize, len: usize) -> u64
-    requires { at + len ≤ maxNameBytes }
-    ensures { (result ≡ at * slotUnit + len) × (result < hintUnit) }
+    requires { at + len ≤ max_name_bytes }
+    ensures { (result ≡ at * slot_unit + len) × (result < hint_unit) }
 {
     (at as u64) * SLOT_UNIT + (len as u64)
 }
@@ -42,7 +42,7 @@ fn word_of(at: usize, len: usize) -> u64
 // The place of the slot that holds the hint of a name, the text from `start` to `end`.
 fn hint_at(text: &[u8], start: usize, end: usize) -> usize
     requires { (start ≤ end) × (end ≤ length text.now) }
-    ensures { (result < maxCategories) × (result ≡ hintOf (drop start (take end text.now))) }
+    ensures { (result < max_categories) × (result ≡ hint_of (drop start (take end text.now))) }
 {
     (mark::mark_of(&text[start..end]) % HINTS) as usize
 }
@@ -69,7 +69,7 @@ fn try_all(
     start: usize,
     end: usize,
 ) -> Found
-    requires { (count ≤ maxCategories) × Sought slots.now text.now start end }
+    requires { (count ≤ max_categories) × Sought slots.now text.now start end }
     ensures { FindsIn names.now slots.now count (drop start (take end text.now)) result }
 {
     let mut i = 0;
@@ -91,7 +91,7 @@ pub fn find_name(
     start: usize,
     end: usize,
 ) -> Found
-    requires { (count ≤ maxCategories) × Sought slots.now text.now start end }
+    requires { (count ≤ max_categories) × Sought slots.now text.now start end }
     ensures { FindsIn names.now slots.now count (drop start (take end text.now)) result }
 {
     let hint = (slots[hint_at(text, start, end)] / HINT_UNIT) as usize;
@@ -105,25 +105,25 @@ pub fn find_name(
 
 // Slot i with another word below its hint.
 fn put_word(slots: &mut [u64], i: usize, word: u64)
-    requires { (i < length slots.old) × (word < hintUnit) }
-    ensures { slots.new ≡ set slots.old i (withWord word (get_or slots.old i 0)) }
+    requires { (i < length slots.old) × (word < hint_unit) }
+    ensures { slots.new ≡ set slots.old i (with_word word (get_or slots.old i 0)) }
 {
     slots[i] = slots[i] / HINT_UNIT * HINT_UNIT + word;
 }
 
 // Slot i with another hint above its word.
 fn put_hint(slots: &mut [u64], i: usize, hint: usize)
-    requires { (i < length slots.old) × (hint < maxCategories) }
-    ensures { slots.new ≡ set slots.old i (withHint hint (get_or slots.old i 0)) }
+    requires { (i < length slots.old) × (hint < max_categories) }
+    ensures { slots.new ≡ set slots.old i (with_hint hint (get_or slots.old i 0)) }
 {
     slots[i] = (hint as u64) * HINT_UNIT + slots[i] % HINT_UNIT;
 }
 
 // The word and the hint of a new name: the text from `start` to `end`, whose bytes stand at `at` of the store.
 pub fn add_slot(slots: &mut [u64], count: usize, at: usize, text: &[u8], start: usize, end: usize)
-    requires count_lt_max_categories { (count < maxCategories) × (at + (end - start) ≤ maxNameBytes) }
+    requires count_lt_max_categories { (count < max_categories) × (at + (end - start) ≤ max_name_bytes) }
     requires sought { Sought slots.old text.now start end }
-    ensures { Added slots.old count (at * slotUnit + (end - start)) (hintOf (drop start (take end text.now))) slots.new }
+    ensures { Added slots.old count (at * slot_unit + (end - start)) (hint_of (drop start (take end text.now))) slots.new }
 {
     put_word(slots, count, word_of(at, end - start));
     put_hint(slots, hint_at(text, start, end), count);

@@ -9,7 +9,7 @@ use lib.Dec.{T}
 use lib.ListN.{take, drop}
 use Rattle.paper.specs.Tables.Layout.{pieces}
 use Rattle.paper.proofs.Lists.Facts.{T→true}
-use Rattle.paper.proofs.Tables.Laws.{left, left-all, left-none, left-more}
+use Rattle.paper.proofs.Tables.Laws.{left, left_all, left_none, left_more}
 use Rattle.table_rules.proofs.Tests.{untrue}
 
 -- entry i of width w
@@ -27,11 +27,11 @@ module _
     (n : ℕ)
   where
     pub begins : (s : S) → test s (left w n 0 l) ≡ test s (pieces w n l)
-    begins s = ap (test s) (left-all w n l)
+    begins s = ap (test s) (left_all w n l)
 
     module _ (i : ℕ) (s : S) (v : Bool) (inv : test s (left w n i l) ≡ v) where
       opened : i < n → (one s (entry w i l) && test (next s (entry w i l)) (left w n (i + 1) l)) ≡ v
-      opened lt = sym (ap (test s) (left-more w n i l lt) ∙ more s (entry w i l) (left w n (i + 1) l)) ∙ inv
+      opened lt = sym (ap (test s) (left_more w n i l lt) ∙ more s (entry w i l) (left w n (i + 1) l)) ∙ inv
 
       pub fails : i < n → (T (one s (entry w i l)) → ⊥) → false ≡ v
       fails lt f = rw (untrue (one s (entry w i l)) f) at (opened lt)
@@ -40,4 +40,4 @@ module _
       goes lt t = rw (T→true (one s (entry w i l)) t) at (opened lt)
 
       pub ends : n ≤ i → test s [] ≡ v
-      ends h = sym (ap (test s) (left-none w n i l h)) ∙ inv
+      ends h = sym (ap (test s) (left_none w n i l h)) ∙ inv

@@ -2,8 +2,8 @@
 // are allowed. `hold` asks them, once it knows that the tables are as long as their counts say.
 ghost use Rattle.std.specs.Prelude.{◌≡◌, map, ◌*◌, ◌≤◌, length};
 ghost use Rattle.paper.specs.Lists.{all};
-ghost use Rattle.paper.specs.Computed.HandedIn.{nameSlotsStand, slotsStand, flagged};
-ghost use Rattle.paper.specs.Tables.Layout.{pieces, nameSlotOf, slot_of};
+ghost use Rattle.paper.specs.Computed.HandedIn.{name_slots_stand, slots_stand, flagged};
+ghost use Rattle.paper.specs.Tables.Layout.{pieces, name_slot_of, slot_of};
 
 use table::{
     CATEGORY_BYTES, COUNT_AT, DEFINITION_BYTES, FIRST_AT, GROUP_AT, INVOKE_AT, NAME_LENGTH_AT,
@@ -13,7 +13,7 @@ use table::{
 // Names stand one behind another from 0 up to the total, none of them empty.
 pub fn names_stand(categories: &[u8], n: usize, total: usize) -> bool
     requires { 4 * n ≤ length categories.now }
-    ensures { result ≡ nameSlotsStand total 0 (map nameSlotOf (pieces 4 n categories.now)) }
+    ensures { result ≡ name_slots_stand total 0 (map name_slot_of (pieces 4 n categories.now)) }
 {
     let mut at = 0;
     let mut i = 0;
@@ -56,7 +56,7 @@ pub fn flags_hold(definitions: &[u8], n: usize) -> bool
 // References stand one behind another from 0 up to the total, and bounds are allowed.
 pub fn ranges_stand(ranges: &[u8], n: usize, total: usize) -> bool
     requires { 8 * n ≤ length ranges.now }
-    ensures { result ≡ slotsStand total 0 (map slot_of (pieces 8 n ranges.now)) }
+    ensures { result ≡ slots_stand total 0 (map slot_of (pieces 8 n ranges.now)) }
 {
     let mut sum = 0;
     let mut i = 0;

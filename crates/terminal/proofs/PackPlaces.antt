@@ -6,117 +6,117 @@ use native.Mathlib.Omega.{arith}
 use mathlib.Core.Path.{◌≡◌, ap, ◌∙◌}
 use mathlib.Core.List.{List, [], ◌∷◌, ◌++◌, append-nil}
 use lib.ListN.{length, length-append}
-use Rattle.paper.specs.Sizes.{maxCategories, maxNameBytes, maxCategoryLines, maxRanges, maxReferences}
-use Rattle.paper.specs.CharDef.Reading.{nameBytes}
-use Rattle.paper.specs.Pack.Fields.{versionWidth, categoriesWidth, linesWidth, rangesWidth, referencesWidth, nameLengthWidth, byteWidth, flagWidth, lengthWidth, boundWidth, countWidth, numberWidth, definitionWidth, rangeWidth, Field, field, bits, spell, bytes_of}
-use Rattle.paper.specs.Pack.Broken.{Head, Due, versionField, categoriesField, linesField, rangesField, referencesField, nameLengthField, nameField, invokeField, groupField, lengthField, lowerField, upperField, countField, numberField, Next, due, end, width, Keeps, rangesLeft, numbersLeft, definitionsLeft, namesLeft, after, Begins, nothing_yet, one_more, Reaches, Broken, ends, breaks, adds-up-wrong, left_over}
-use Rattle.paper.proofs.Pack.Bits.{spell-append, bytesOf-length}
-use Rattle.paper.proofs.Pack.Size.{bits-length}
+use Rattle.paper.specs.Sizes.{max_categories, max_name_bytes, max_category_lines, max_ranges, max_references}
+use Rattle.paper.specs.CharDef.Reading.{name_bytes}
+use Rattle.paper.specs.Pack.Fields.{version_width, categories_width, lines_width, ranges_width, references_width, name_length_width, byte_width, flag_width, length_width, bound_width, count_width, number_width, definition_width, range_width, Field, field, bits, spell, bytes_of}
+use Rattle.paper.specs.Pack.Broken.{Head, Due, version_field, categories_field, lines_field, ranges_field, references_field, name_length_field, name_field, invoke_field, group_field, length_field, lower_field, upper_field, count_field, number_field, Next, due, end, width, Keeps, ranges_left, numbers_left, definitions_left, names_left, after, Begins, nothing_yet, one_more, Reaches, Broken, ends, breaks, adds_up_wrong, left_over}
+use Rattle.paper.proofs.Pack.Bits.{spell_append, bytes_of_length}
+use Rattle.paper.proofs.Pack.Size.{bits_length}
 
 -- ---- the bits that can still follow
 
-ranges-bits : Head → ℕ → ℕ → ℕ
-ranges-bits h k u = rangeWidth * k + numberWidth * (h.references - u)
+ranges_bits_lem : Head → ℕ → ℕ → ℕ
+ranges_bits_lem h k u = range_width * k + number_width * (h.references - u)
 
-definitions-bits : Head → ℕ → ℕ
-definitions-bits h k = definitionWidth * k + (rangeWidth * h.ranges + numberWidth * h.references)
+definitions_bits_lem : Head → ℕ → ℕ
+definitions_bits_lem h k = definition_width * k + (range_width * h.ranges + number_width * h.references)
 
-names-bits : Head → ℕ → ℕ → ℕ
-names-bits h k used = nameLengthWidth * k + byteWidth * (maxNameBytes - used) + (definitionWidth * h.lines + (rangeWidth * h.ranges + numberWidth * h.references))
+names_bits_lem : Head → ℕ → ℕ → ℕ
+names_bits_lem h k used = name_length_width * k + byte_width * (max_name_bytes - used) + (definition_width * h.lines + (range_width * h.ranges + number_width * h.references))
 
 -- behind c categories, l lines and g ranges of the head
 counted : ℕ → ℕ → ℕ → ℕ
-counted c l g = nameLengthWidth * c + byteWidth * maxNameBytes + (definitionWidth * l + (rangeWidth * g + numberWidth * maxReferences))
+counted c l g = name_length_width * c + byte_width * max_name_bytes + (definition_width * l + (range_width * g + number_width * max_references))
 
-of-due : Due → ℕ
-of-due versionField = versionWidth + categoriesWidth + linesWidth + rangesWidth + referencesWidth + counted maxCategories maxCategoryLines maxRanges
-of-due categoriesField = categoriesWidth + linesWidth + rangesWidth + referencesWidth + counted maxCategories maxCategoryLines maxRanges
-of-due (linesField c) = linesWidth + rangesWidth + referencesWidth + counted c maxCategoryLines maxRanges
-of-due (rangesField c l) = rangesWidth + referencesWidth + counted c l maxRanges
-of-due (referencesField c l g) = referencesWidth + counted c l g
-of-due (nameLengthField h k ns) = names-bits h (suc k) (nameBytes ns)
-of-due (nameField h k ns n) = byteWidth * n + names-bits h k (nameBytes ns + n)
-of-due (invokeField h k) = definitions-bits h (suc k)
-of-due (groupField h k) = flagWidth + lengthWidth + definitions-bits h k
-of-due (lengthField h k) = lengthWidth + definitions-bits h k
-of-due (lowerField h k u) = ranges-bits h (suc k) u
-of-due (upperField h k u) = boundWidth + countWidth + ranges-bits h k u
-of-due (countField h k u) = countWidth + ranges-bits h k u
-of-due (numberField h k u j) = numberWidth * suc j + ranges-bits h k u
+of_due : Due → ℕ
+of_due version_field = version_width + categories_width + lines_width + ranges_width + references_width + counted max_categories max_category_lines max_ranges
+of_due categories_field = categories_width + lines_width + ranges_width + references_width + counted max_categories max_category_lines max_ranges
+of_due (lines_field c) = lines_width + ranges_width + references_width + counted c max_category_lines max_ranges
+of_due (ranges_field c l) = ranges_width + references_width + counted c l max_ranges
+of_due (references_field c l g) = references_width + counted c l g
+of_due (name_length_field h k ns) = names_bits_lem h (suc k) (name_bytes ns)
+of_due (name_field h k ns n) = byte_width * n + names_bits_lem h k (name_bytes ns + n)
+of_due (invoke_field h k) = definitions_bits_lem h (suc k)
+of_due (group_field h k) = flag_width + length_width + definitions_bits_lem h k
+of_due (length_field h k) = length_width + definitions_bits_lem h k
+of_due (lower_field h k u) = ranges_bits_lem h (suc k) u
+of_due (upper_field h k u) = bound_width + count_width + ranges_bits_lem h k u
+of_due (count_field h k u) = count_width + ranges_bits_lem h k u
+of_due (number_field h k u j) = number_width * suc j + ranges_bits_lem h k u
 
 most : Next → ℕ
-most (due x) = of-due x
+most (due x) = of_due x
 most (end n total) = 0
 
 module _ (h : Head) where
-  ranges-most : (k u : ℕ) → most (rangesLeft h k u) ≤ ranges-bits h k u
-  unfolding most of-due ranges-bits
-  ranges-most zero u = omega arith
-  ranges-most (suc k) u = le_refl _
+  ranges_most : (k u : ℕ) → most (ranges_left h k u) ≤ ranges_bits_lem h k u
+  unfolding most of_due ranges_bits_lem
+  ranges_most zero u = omega arith
+  ranges_most (suc k) u = le_refl _
 
-  numbers-most : (k u j : ℕ) → most (numbersLeft h k u j) ≤ numberWidth * j + ranges-bits h k u
-  unfolding most of-due
-  numbers-most k u zero = let r = ranges-most k u in omega arith
-  numbers-most k u (suc j) = le_refl _
+  numbers_most : (k u j : ℕ) → most (numbers_left h k u j) ≤ number_width * j + ranges_bits_lem h k u
+  unfolding most of_due
+  numbers_most k u zero = let r = ranges_most k u in omega arith
+  numbers_most k u (suc j) = le_refl _
 
-  definitions-most : (k : ℕ) → most (definitionsLeft h k) ≤ definitions-bits h k
-  unfolding most of-due definitions-bits ranges-bits
-  definitions-most zero = let r = ranges-most h.ranges 0 in omega arith
-  definitions-most (suc k) = le_refl _
+  definitions_most : (k : ℕ) → most (definitions_left h k) ≤ definitions_bits_lem h k
+  unfolding most of_due definitions_bits_lem ranges_bits_lem
+  definitions_most zero = let r = ranges_most h.ranges 0 in omega arith
+  definitions_most (suc k) = le_refl _
 
-  names-most : (k : ℕ) (ns : List (List ℕ)) → most (namesLeft h k ns) ≤ names-bits h k (nameBytes ns)
-  unfolding most of-due names-bits definitions-bits
-  names-most zero ns = let r = definitions-most h.lines in omega arith
-  names-most (suc k) ns = le_refl _
+  names_most : (k : ℕ) (ns : List (List ℕ)) → most (names_left h k ns) ≤ names_bits_lem h k (name_bytes ns)
+  unfolding most of_due names_bits_lem definitions_bits_lem
+  names_most zero ns = let r = definitions_most h.lines in omega arith
+  names_most (suc k) ns = le_refl _
 
-named-bytes : (n v : ℕ) (ns : List (List ℕ)) → nameBytes (bytes_of n v ∷ ns) ≡ n + nameBytes ns
-unfolding nameBytes
-named-bytes n v ns = ap (λ k. k + nameBytes ns) (bytesOf-length n v)
+named_bytes : (n v : ℕ) (ns : List (List ℕ)) → name_bytes (bytes_of n v ∷ ns) ≡ n + name_bytes ns
+unfolding name_bytes
+named_bytes n v ns = ap (λ k. k + name_bytes ns) (bytes_of_length n v)
 
 -- a field and what can follow it is no more than could
-step : (x : Due) (v : ℕ) → Keeps x v → width x + most (after x v) ≤ of-due x
-unfolding most of-due names-bits definitions-bits ranges-bits counted
-step versionField v k = le_refl _
-step categoriesField c k = omega arith
-step (linesField c) l k = omega arith
-step (rangesField c l) g k = omega arith
-step (referencesField c l g) n k =
-    let r = names-most (record { categories = c; lines = l; ranges = g; references = n }) c [] in omega arith
-step (nameLengthField h k ns) n (one, fits) = omega arith
-step (nameField h k ns n) v w =
-    let r = names-most h k (bytes_of n v ∷ ns) in
-    let e = named-bytes n v ns in
+step : (x : Due) (v : ℕ) → Keeps x v → width x + most (after x v) ≤ of_due x
+unfolding most of_due names_bits_lem definitions_bits_lem ranges_bits_lem counted
+step version_field v k = le_refl _
+step categories_field c k = omega arith
+step (lines_field c) l k = omega arith
+step (ranges_field c l) g k = omega arith
+step (references_field c l g) n k =
+    let r = names_most (record { categories = c; lines = l; ranges = g; references = n }) c [] in omega arith
+step (name_length_field h k ns) n (one, fits) = omega arith
+step (name_field h k ns n) v w =
+    let r = names_most h k (bytes_of n v ∷ ns) in
+    let e = named_bytes n v ns in
     omega arith
-step (invokeField h k) v w = omega arith
-step (groupField h k) v w = omega arith
-step (lengthField h k) v w = let r = definitions-most h k in omega arith
-step (lowerField h k u) b w = omega arith
-step (upperField h k u) b w = omega arith
-step (countField h k u) n w = let r = numbers-most h k (u + n) n in omega arith
-step (numberField h k u j) c w = let r = numbers-most h k u j in omega arith
+step (invoke_field h k) v w = omega arith
+step (group_field h k) v w = omega arith
+step (length_field h k) v w = let r = definitions_most h k in omega arith
+step (lower_field h k u) b w = omega arith
+step (upper_field h k u) b w = omega arith
+step (count_field h k u) n w = let r = numbers_most h k (u + n) n in omega arith
+step (number_field h k u j) c w = let r = numbers_most h k u j in omega arith
 
 -- ---- fields that begin a pack
 
-one-longer : (fs : List Field) (w v : ℕ) → length (spell (fs ++ (field w v ∷ []))) ≡ length (spell fs) + w
-one-longer fs w v =
-    ap length (spell-append fs (field w v ∷ [])) ∙ length-append (spell fs) (spell (field w v ∷ []))
-    ∙ ap (λ l. length (spell fs) + length l) (append-nil (bits w v)) ∙ ap (λ n. length (spell fs) + n) (bits-length w v)
+one_longer : (fs : List Field) (w v : ℕ) → length (spell (fs ++ (field w v ∷ []))) ≡ length (spell fs) + w
+one_longer fs w v =
+    ap length (spell_append fs (field w v ∷ [])) ∙ length-append (spell fs) (spell (field w v ∷ []))
+    ∙ ap (λ l. length (spell fs) + length l) (append-nil (bits w v)) ∙ ap (λ n. length (spell fs) + n) (bits_length w v)
 
-begins-near : {fs : List Field} {x : Next} → Begins fs x → length (spell fs) + most x ≤ of-due versionField
-unfolding most of-due counted
-begins-near nothing_yet = le_refl _
-begins-near (one_more {fs = fs} {x = x} v b small k) =
-    let h = begins-near b in
+begins_near : {fs : List Field} {x : Next} → Begins fs x → length (spell fs) + most x ≤ of_due version_field
+unfolding most of_due counted
+begins_near nothing_yet = le_refl _
+begins_near (one_more {fs = fs} {x = x} v b small k) =
+    let h = begins_near b in
     let s = step x v k in
-    let e = one-longer fs (width x) v in
+    let e = one_longer fs (width x) v in
     omega arith
 
-reaches-near : {pack : List ℕ} {place : ℕ} {x : Next} {rest : List ℕ} → Reaches pack place x rest → place ≤ of-due versionField
-reaches-near r = let h = begins-near r.begins in let e = r.starts in omega arith
+reaches_near : {pack : List ℕ} {place : ℕ} {x : Next} {rest : List ℕ} → Reaches pack place x rest → place ≤ of_due version_field
+reaches_near r = let h = begins_near r.begins in let e = r.starts in omega arith
 
-pub broken-near : {pack : List ℕ} {n place : ℕ} → Broken pack n place → place < 0x1_0000_0000
-unfolding of-due counted
-broken-near (ends r s) = let h = reaches-near r in omega arith
-broken-near (breaks v rest r s k) = let h = reaches-near r in omega arith
-broken-near (adds-up-wrong r k) = let h = reaches-near r in omega arith
-broken-near (left_over r f) = let h = reaches-near r in omega arith
+pub broken_near : {pack : List ℕ} {n place : ℕ} → Broken pack n place → place < 0x1_0000_0000
+unfolding of_due counted
+broken_near (ends r s) = let h = reaches_near r in omega arith
+broken_near (breaks v rest r s k) = let h = reaches_near r in omega arith
+broken_near (adds_up_wrong r k) = let h = reaches_near r in omega arith
+broken_near (left_over r f) = let h = reaches_near r in omega arith

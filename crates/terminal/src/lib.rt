@@ -1,7 +1,7 @@
 // What C calls: "exported as extern \"C\" on numbers and byte slices". Each entry is the plain function's through one u64, 0 or number + 256 * place,
 // and a lent slice for the counts. Nothing checks what C hands over, so nothing is asked of it.
-ghost use Rattle.paper.specs.Computed.ReadPack.{readPack};
-ghost use Rattle.paper.specs.Computed.ReadText.{readText};
+ghost use Rattle.paper.specs.Computed.ReadPack.{read_pack};
+ghost use Rattle.paper.specs.Computed.ReadText.{read_text};
 ghost use Rattle.paper.specs.Text.Scalar.{LongestPrefix};
 ghost use Rattle.exported.specs.Answer.{Exports};
 
@@ -27,7 +27,7 @@ pub extern "C" fn twinebeetle_read_char_def(
     references: &mut [u8],
     counts: &mut [u8],
 ) -> u64
-    ensures { Exports (readText text.now) (record { names = names.entry.now; categories = categories.old; definitions = definitions.old; ranges = ranges.old; references = references.old }) (record { names = names.exit.now; categories = categories.new; definitions = definitions.new; ranges = ranges.new; references = references.new }) counts.old counts.new result }
+    ensures { Exports (read_text text.now) (record { names = names.entry.now; categories = categories.old; definitions = definitions.old; ranges = ranges.old; references = references.old }) (record { names = names.exit.now; categories = categories.new; definitions = definitions.new; ranges = ranges.new; references = references.new }) counts.old counts.new result }
 {
     if counts.len() < COUNTS_SIZE {
         return ROOM_SHORT as u64;
@@ -47,7 +47,7 @@ pub extern "C" fn twinebeetle_read_pack(
     references: &mut [u8],
     counts: &mut [u8],
 ) -> u64
-    ensures { Exports (readPack pack.now) (record { names = names.entry.now; categories = categories.old; definitions = definitions.old; ranges = ranges.old; references = references.old }) (record { names = names.exit.now; categories = categories.new; definitions = definitions.new; ranges = ranges.new; references = references.new }) counts.old counts.new result }
+    ensures { Exports (read_pack pack.now) (record { names = names.entry.now; categories = categories.old; definitions = definitions.old; ranges = ranges.old; references = references.old }) (record { names = names.exit.now; categories = categories.new; definitions = definitions.new; ranges = ranges.new; references = references.new }) counts.old counts.new result }
 {
     if counts.len() < COUNTS_SIZE {
         return ROOM_SHORT as u64;

@@ -3,10 +3,10 @@
 -- Assumes nothing.
 use Rattle.std.specs.Prelude.{ℕ, ◌+◌, ◌*◌, ◌≡◌, cond, ◌&&◌, List, ◌++◌, leb, length}
 use Rattle.std.proofs.Math.Option.{Option, none}
-use Rattle.paper.specs.Refusals.{roomShort}
+use Rattle.paper.specs.Refusals.{room_short}
 use Rattle.paper.specs.CharDef.Reading.{Reading}
-use Rattle.paper.specs.Numbers.Bytes.{le, u16Size, u32Size}
-use Rattle.paper.specs.Computed.HandedIn.{handedIn}
+use Rattle.paper.specs.Numbers.Bytes.{le, u16_size, u32_size}
+use Rattle.paper.specs.Computed.HandedIn.{handed_in}
 use Rattle.paper.specs.Tables.Layout.{Tables}
 use Rattle.paper.specs.Tables.Lent.{num, zeroed, patch}
 use Rattle.paper.specs.Tables.Reader.{clears}
@@ -16,54 +16,54 @@ use Rattle.unk_enter.specs.declared.UnkCounts.{UnkCounts}
 use Rattle.unk.specs.declared.UnkOutcome.{UnkOutcome}
 use Rattle.unk.specs.declared.UnkOutcome.TheVariants.{Accepted, Refused}
 use Rattle.unk.specs.Layout.{UnkTables}
-use Rattle.unk.specs.Parse.{hasRoom, overReading, given, leaves}
-use Rattle.exported.specs.Answer.{placeUnit, countsSize}
+use Rattle.unk.specs.Parse.{has_room, over_reading, given, leaves}
+use Rattle.exported.specs.Answer.{place_unit, counts_size}
 
 -- ---- one number: 0, or number + 256 · place
 
 abbrev pub code_of : UnkOutcome → ℕ
 code_of (Accepted n) = 0
-code_of (Refused x) = x.number + placeUnit * x.place
+code_of (Refused x) = x.number + place_unit * x.place
 
 -- ---- the counts of what was read: entries in two bytes, detail bytes in four
 
-unfoldable pub unkCountBytes : UnkCounts → List ℕ
-unkCountBytes n = le u16Size n.entries ++ le u32Size n.bytes
+unfoldable pub unk_count_bytes : UnkCounts → List ℕ
+unk_count_bytes n = le u16_size n.entries ++ le u32_size n.bytes
 
-abbrev pub unkCountsSize : ℕ
-unkCountsSize = 6
+abbrev pub unk_counts_size : ℕ
+unk_counts_size = 6
 
 -- they are part of the room: written on acceptance, zero or kept with the rest of it otherwise
-unfoldable pub countsAfter : UnkOutcome → List ℕ → List ℕ
+unfoldable pub counts_after : UnkOutcome → List ℕ → List ℕ
 unfolding clears
-countsAfter (Accepted n) l = patch 0 (unkCountBytes n) l
-countsAfter (Refused x) l = cond (clears x.number) (zeroed unkCountsSize l) l
+counts_after (Accepted n) l = patch 0 (unk_count_bytes n) l
+counts_after (Refused x) l = cond (clears x.number) (zeroed unk_counts_size l) l
 
 -- ---- what is handed in
 
 -- a reading's counts: five numbers of two bytes, as the other readers leave them
-unfoldable pub countsIn : List ℕ → Counts
-countsIn l =
+unfoldable pub counts_in : List ℕ → Counts
+counts_in l =
     record {
-      categories = num u16Size 0 l;
-      definitions = num u16Size 2 l;
-      ranges = num u16Size 4 l;
-      references = num u16Size 6 l;
-      bytes = num u16Size 8 l;
+      categories = num u16_size 0 l;
+      definitions = num u16_size 2 l;
+      ranges = num u16_size 4 l;
+      references = num u16_size 6 l;
+      bytes = num u16_size 8 l;
     }
 
 -- counts that are cut are those of no reading
-unfoldable pub handedOver : Tables → (counts : List ℕ) → Option Reading
-handedOver t counts = cond (leb countsSize (length counts)) (handedIn t (countsIn counts)) none
+unfoldable pub handed_over : Tables → (counts : List ℕ) → Option Reading
+handed_over t counts = cond (leb counts_size (length counts)) (handed_in t (counts_in counts)) none
 
 -- ---- the entry
 
 -- "Order: 1; 26; 2; 3; then lines from the top": the counts that are lent belong to the room
-unfoldable pub answerOver : Tables → (counts text : List ℕ) → UnkTables → (room : List ℕ) → UnkAnswer
-answerOver t counts text lent room =
-    cond (leb unkCountsSize (length room) && hasRoom lent) (overReading (handedOver t counts) text) (refused roomShort 0)
+unfoldable pub answer_over : Tables → (counts text : List ℕ) → UnkTables → (room : List ℕ) → UnkAnswer
+answer_over t counts text lent room =
+    cond (leb unk_counts_size (length room) && has_room lent) (over_reading (handed_over t counts) text) (refused room_short 0)
 
 pub record ExportsUnk (t : Tables) (counts text : List ℕ) (lent left : UnkTables) (room after : List ℕ) (r : ℕ) : Type 0 where
-  pub number : r ≡ code_of (given (answerOver t counts text lent room))
-  pub tables : left ≡ leaves (answerOver t counts text lent room) lent
-  pub counts-left : after ≡ countsAfter (given (answerOver t counts text lent room)) room
+  pub number : r ≡ code_of (given (answer_over t counts text lent room))
+  pub tables : left ≡ leaves (answer_over t counts text lent room) lent
+  pub counts_left : after ≡ counts_after (given (answer_over t counts text lent room)) room

@@ -2,21 +2,21 @@
 -- are, as the proofs show.
 -- Assumes nothing.
 use Rattle.std.specs.Prelude.{ℕ, ◌+◌, ◌<◌, ◌≡◌, cond, List, leb, length}
-use Rattle.paper.specs.Sizes.{maxCategories}
+use Rattle.paper.specs.Sizes.{max_categories}
 use Rattle.paper.specs.declared.Counts.{Counts}
 use Rattle.unk_enter.specs.declared.UnkCounts.{UnkCounts}
 use Rattle.unk.specs.declared.UnkOutcome.{UnkOutcome}
 use Rattle.unk.specs.declared.UnkOutcome.TheVariants.{Accepted, Refused}
-use Rattle.exported.specs.Answer.{countsSize}
-use Rattle.terminal_unk.specs.Answer.{code_of, countsIn, countsAfter}
+use Rattle.exported.specs.Answer.{counts_size}
+use Rattle.terminal_unk.specs.Answer.{code_of, counts_in, counts_after}
 
 -- more categories than any reading has
-abbrev pub noCounts : Counts
-noCounts = record { categories = maxCategories + 1; definitions = 0; ranges = 0; references = 0; bytes = 0 }
+abbrev pub no_counts : Counts
+no_counts = record { categories = max_categories + 1; definitions = 0; ranges = 0; references = 0; bytes = 0 }
 
 -- what is made of the counts that are handed in
-unfoldable pub countsRead : List ℕ → Counts
-countsRead l = cond (leb countsSize (length l)) (countsIn l) noCounts
+unfoldable pub counts_read : List ℕ → Counts
+counts_read l = cond (leb counts_size (length l)) (counts_in l) no_counts
 
 pub record Countable (n : UnkCounts) : Type 0 where
   pub entries : n.entries < 0x1_0000
@@ -28,4 +28,4 @@ Exportable (Refused x) = x.place < 0x1_0000_0000
 
 pub record Gives (o : UnkOutcome) (before after : List ℕ) (r : ℕ) : Type 0 where
   pub number : r ≡ code_of o
-  pub counts : after ≡ countsAfter o before
+  pub counts : after ≡ counts_after o before

@@ -2,8 +2,8 @@
 // number + 256 * place, and a lent slice for the counts of what was read. Nothing checks what C hands over, so nothing is asked of it.
 ghost use Rattle.std.specs.Prelude.{◌≡◌, ◌≤◌, length};
 ghost use Rattle.paper.specs.Tables.Lent.{patch};
-ghost use Rattle.terminal_unk.specs.Answer.{unkCountsSize, unkCountBytes, ExportsUnk};
-ghost use Rattle.terminal_unk.specs.Room.{countsRead, Countable, Exportable, Gives};
+ghost use Rattle.terminal_unk.specs.Answer.{unk_counts_size, unk_count_bytes, ExportsUnk};
+ghost use Rattle.terminal_unk.specs.Room.{counts_read, Countable, Exportable, Gives};
 
 use exported::{BYTES_AT, COUNTS_SIZE, DEFINITIONS_AT, PLACE_UNIT, RANGES_AT, REFERENCES_AT};
 use paper::{Counts, MAX_CATEGORIES, ROOM_SHORT};
@@ -20,7 +20,7 @@ const CATEGORIES_OF_NONE: usize = MAX_CATEGORIES + 1;
 
 // The counts that are handed in; where they are cut, those of no reading.
 fn get_counts(counts: &[u8]) -> Counts
-    ensures { result ≡ countsRead counts.now }
+    ensures { result ≡ counts_read counts.now }
 {
     if counts.len() < COUNTS_SIZE {
         return Counts {
@@ -41,9 +41,9 @@ fn get_counts(counts: &[u8]) -> Counts
 }
 
 fn put_counts(counts: &mut [u8], n: UnkCounts)
-    requires unk_counts_size_in_bounds { unkCountsSize ≤ length counts.old }
+    requires unk_counts_size_in_bounds { unk_counts_size ≤ length counts.old }
     requires countable { Countable n }
-    ensures { counts.new ≡ patch 0 (unkCountBytes n) counts.old }
+    ensures { counts.new ≡ patch 0 (unk_count_bytes n) counts.old }
 {
     table::put_u16(counts, 0, n.entries as u16);
     table::put_u32(counts, DETAIL_BYTES_AT, n.bytes as u32);
@@ -51,7 +51,7 @@ fn put_counts(counts: &mut [u8], n: UnkCounts)
 
 // An outcome as C gets it: the number, and the counts or what a refusal leaves in their place.
 fn give(outcome: UnkOutcome, counts: &mut [u8]) -> u64
-    requires unk_counts_size_in_bounds { unkCountsSize ≤ length counts.old }
+    requires unk_counts_size_in_bounds { unk_counts_size ≤ length counts.old }
     requires exportable { Exportable outcome }
     ensures { Gives outcome counts.old counts.new result }
 {

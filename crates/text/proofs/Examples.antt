@@ -4,7 +4,7 @@ use Prim.Native.Nat.{ℕ}
 use mathlib.Core.Path.{◌≡◌, refl}
 use mathlib.Core.List.{List, [], ◌∷◌, map}
 use Rattle.paper.specs.Computed.Decode.{chars, decode}
-use Rattle.text.specs.Answers.{whiteWidth}
+use Rattle.text.specs.Answers.{white_width}
 
 -- bytes and their characters
 abbrev examples : List (List ℕ × List ℕ)
@@ -15,10 +15,10 @@ examples =
     ∷ ((0xEF ∷ 0xBB ∷ 0xBF ∷ 0xF0 ∷ 0xA3 ∷ 0x8E ∷ 0xB4 ∷ []), (0xFEFF ∷ 0x233B4 ∷ []))
     ∷ []
 
-pub examples-decode : map (λ e. decode e.0) examples ≡ map (λ e. chars e.1) examples
+pub examples_decode : map (λ e. decode e.0) examples ≡ map (λ e. chars e.1) examples
 unfolding decode
-examples-decode = refl
+examples_decode = refl
 
-pub mark-no-space : (t : List ℕ) → whiteWidth (0xEF ∷ 0xBB ∷ 0xBF ∷ t) ≡ 0
-unfolding whiteWidth
-mark-no-space t = refl
+pub mark_no_space : (t : List ℕ) → white_width (0xEF ∷ 0xBB ∷ 0xBF ∷ t) ≡ 0
+unfolding white_width
+mark_no_space t = refl

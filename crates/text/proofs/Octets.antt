@@ -12,9 +12,9 @@ use lib.Seq.{drop-cons}
 use mir.Facts.{and_yes, leb_yes}
 use borrow.Author.Tests.{le-leb, lt-leb, leb-true, leb-false, eq-eqb, ne_eqb}
 use Rattle.paper.specs.Text.Scalar.{between, In}
-use Rattle.paper.specs.Computed.Decode.{bad, good, lowest, highest, isTail, two, three, four, first}
-use Rattle.paper.proofs.Lists.Facts.{below, from-below, true→T}
-use Rattle.text.specs.Classes.{tail, lead2, lead3, lead4, leadE0, leadED, leadF0, leadF4, class_of}
+use Rattle.paper.specs.Computed.Decode.{bad, good, lowest, highest, is_tail, two, three, four, first}
+use Rattle.paper.proofs.Lists.Facts.{below, from_below, true→T}
+use Rattle.text.specs.Classes.{tail, lead2, lead3, lead4, lead_e0, lead_ed, lead_f0, lead_f4, class_of}
 use Rattle.text.specs.Answers.{Second}
 
 -- ---- tests over the octets
@@ -23,14 +23,14 @@ abbrev agree : Bool → Bool → Bool
 agree true b = b
 agree false b = not b
 
-agree-eq : (a b : Bool) → T (agree a b) → a ≡ b
-agree-eq true true t = refl
-agree-eq true false t = absurd t
-agree-eq false true t = absurd t
-agree-eq false false t = refl
+agree_eq : (a b : Bool) → T (agree a b) → a ≡ b
+agree_eq true true t = refl
+agree_eq true false t = absurd t
+agree_eq false true t = absurd t
+agree_eq false false t = refl
 
 octets : (p q : ℕ → Bool) → T (below (λ b. agree (p b) (q b)) 256) → {b : ℕ} → b < 256 → p b ≡ q b
-octets p q t {b} h = agree-eq (p b) (q b) (from-below (λ b. agree (p b) (q b)) 256 t b h)
+octets p q t {b} h = agree_eq (p b) (q b) (from_below (λ b. agree (p b) (q b)) 256 t b h)
 
 abbrev implies : Bool → Bool → Bool
 implies true b = b
@@ -45,13 +45,13 @@ pub record Begins (a from to low high : ℕ) : Type 0 where
   pub within : In from to a
   pub second : Second a low high
 
-abbrev beginsTest : ℕ → ℕ → ℕ → ℕ → ℕ → ℕ → Bool
-beginsTest k from to low high a = implies (eqb (class_of a) k) (between from to a && (eqb low (lowest a) && eqb high (highest a)))
+abbrev begins_test : ℕ → ℕ → ℕ → ℕ → ℕ → ℕ → Bool
+begins_test k from to low high a = implies (eqb (class_of a) k) (between from to a && (eqb low (lowest a) && eqb high (highest a)))
 
 module _ {a : ℕ} (o : a < 256) where
-  begins : (k from to low high : ℕ) → T (below (beginsTest k from to low high) 256) → class_of a ≡ k → Begins a from to low high
+  begins : (k from to low high : ℕ) → T (below (begins_test k from to low high) 256) → class_of a ≡ k → Begins a from to low high
   begins k from to low high t e =
-      let h = implied (eqb (class_of a) k) _ (from-below (beginsTest k from to low high) 256 t a o) (eq-eqb (class_of a) k e) in
+      let h = implied (eqb (class_of a) k) _ (from_below (begins_test k from to low high) 256 t a o) (eq-eqb (class_of a) k e) in
       let b = and_yes (between from to a) (eqb low (lowest a) && eqb high (highest a)) h in
       let r = and_yes (leb from a) (leb a to) b.0 in
       let w = and_yes (eqb low (lowest a)) (eqb high (highest a)) b.1 in
@@ -60,52 +60,52 @@ module _ {a : ℕ} (o : a < 256) where
         second = record { from = eqb→eq low (lowest a) w.0; to = eqb→eq high (highest a) w.1 };
       }
 
-  pub begins-2 : class_of a ≡ lead2 → Begins a 0xC2 0xDF 0x80 0xBF
+  pub begins_2 : class_of a ≡ lead2 → Begins a 0xC2 0xDF 0x80 0xBF
   unfolding class_of lowest highest
-  begins-2 = begins lead2 0xC2 0xDF 0x80 0xBF tt
+  begins_2 = begins lead2 0xC2 0xDF 0x80 0xBF tt
 
-  pub begins-3 : class_of a ≡ lead3 → Begins a 0xE0 0xEF 0x80 0xBF
+  pub begins_3 : class_of a ≡ lead3 → Begins a 0xE0 0xEF 0x80 0xBF
   unfolding class_of lowest highest
-  begins-3 = begins lead3 0xE0 0xEF 0x80 0xBF tt
+  begins_3 = begins lead3 0xE0 0xEF 0x80 0xBF tt
 
-  pub begins-4 : class_of a ≡ lead4 → Begins a 0xF0 0xF4 0x80 0xBF
+  pub begins_4 : class_of a ≡ lead4 → Begins a 0xF0 0xF4 0x80 0xBF
   unfolding class_of lowest highest
-  begins-4 = begins lead4 0xF0 0xF4 0x80 0xBF tt
+  begins_4 = begins lead4 0xF0 0xF4 0x80 0xBF tt
 
-  pub begins-E0 : class_of a ≡ leadE0 → Begins a 0xE0 0xEF 0xA0 0xBF
+  pub begins_E0 : class_of a ≡ lead_e0 → Begins a 0xE0 0xEF 0xA0 0xBF
   unfolding class_of lowest highest
-  begins-E0 = begins leadE0 0xE0 0xEF 0xA0 0xBF tt
+  begins_E0 = begins lead_e0 0xE0 0xEF 0xA0 0xBF tt
 
-  pub begins-ED : class_of a ≡ leadED → Begins a 0xE0 0xEF 0x80 0x9F
+  pub begins_ED : class_of a ≡ lead_ed → Begins a 0xE0 0xEF 0x80 0x9F
   unfolding class_of lowest highest
-  begins-ED = begins leadED 0xE0 0xEF 0x80 0x9F tt
+  begins_ED = begins lead_ed 0xE0 0xEF 0x80 0x9F tt
 
-  pub begins-F0 : class_of a ≡ leadF0 → Begins a 0xF0 0xF4 0x90 0xBF
+  pub begins_F0 : class_of a ≡ lead_f0 → Begins a 0xF0 0xF4 0x90 0xBF
   unfolding class_of lowest highest
-  begins-F0 = begins leadF0 0xF0 0xF4 0x90 0xBF tt
+  begins_F0 = begins lead_f0 0xF0 0xF4 0x90 0xBF tt
 
-  pub begins-F4 : class_of a ≡ leadF4 → Begins a 0xF0 0xF4 0x80 0x8F
+  pub begins_F4 : class_of a ≡ lead_f4 → Begins a 0xF0 0xF4 0x80 0x8F
   unfolding class_of lowest highest
-  begins-F4 = begins leadF4 0xF0 0xF4 0x80 0x8F tt
+  begins_F4 = begins lead_f4 0xF0 0xF4 0x80 0x8F tt
 
-  tail-test : eqb (class_of a) tail ≡ isTail a
+  tail_test : eqb (class_of a) tail ≡ is_tail a
   unfolding class_of
-  tail-test = octets (λ b. eqb (class_of b) tail) isTail tt o
+  tail_test = octets (λ b. eqb (class_of b) tail) is_tail tt o
 
-  pub is-tail : class_of a ≡ tail → isTail a ≡ true
-  is-tail e = sym tail-test ∙ eq-eqb (class_of a) tail e
+  pub is_tail_lem : class_of a ≡ tail → is_tail a ≡ true
+  is_tail_lem e = sym tail_test ∙ eq-eqb (class_of a) tail e
 
-  pub no-tail : (class_of a ≡ tail → ⊥) → isTail a ≡ false
-  no-tail n = sym tail-test ∙ ne_eqb (class_of a) tail n
+  pub no_tail : (class_of a ≡ tail → ⊥) → is_tail a ≡ false
+  no_tail n = sym tail_test ∙ ne_eqb (class_of a) tail n
 
-  lead-test : between lead2 leadF4 (class_of a) ≡ between 0xC2 0xF4 a
+  lead_test : between lead2 lead_f4 (class_of a) ≡ between 0xC2 0xF4 a
   unfolding class_of
-  lead-test = octets (λ b. between lead2 leadF4 (class_of b)) (between 0xC2 0xF4) tt o
+  lead_test = octets (λ b. between lead2 lead_f4 (class_of b)) (between 0xC2 0xF4) tt o
 
   -- an octet that begins no character
-  pub first-none : (s : List ℕ) → 0x80 ≤ a → (In lead2 leadF4 (class_of a) → ⊥) → first a s ≡ bad
+  pub first_none : (s : List ℕ) → 0x80 ≤ a → (In lead2 lead_f4 (class_of a) → ⊥) → first a s ≡ bad
   unfolding first
-  first-none s n m =
+  first_none s n m =
       go (leb a 0xC1) (leb a 0xDF) (leb a 0xEF) (leb a 0xF4) refl refl refl refl
     where
       high : leb a 0x7F ≡ false
@@ -113,8 +113,8 @@ module _ {a : ℕ} (o : a < 256) where
 
       out : (0xC2 ≤ a → a ≤ 0xF4 → ⊥)
       out l h =
-          let t = and_yes (leb lead2 (class_of a)) (leb (class_of a) leadF4)
-          (true→T _ (lead-test ∙ ap (λ x. x && leb a 0xF4) (le-leb 0xC2 a l) ∙ le-leb a 0xF4 h)) in
+          let t = and_yes (leb lead2 (class_of a)) (leb (class_of a) lead_f4)
+          (true→T _ (lead_test ∙ ap (λ x. x && leb a 0xF4) (le-leb 0xC2 a l) ∙ le-leb a 0xF4 h)) in
           m (record { from = leb_yes t.0; to = leb_yes t.1 })
 
       go : (w x y z : Bool) → leb a 0xC1 ≡ w → leb a 0xDF ≡ x → leb a 0xEF ≡ y → leb a 0xF4 ≡ z
@@ -127,62 +127,62 @@ module _ {a : ℕ} (o : a < 256) where
 
 -- ---- how the decoder goes on
 
-pub first-low : {a : ℕ} (s : List ℕ) → In 0x80 0xC1 a → first a s ≡ bad
+pub first_low : {a : ℕ} (s : List ℕ) → In 0x80 0xC1 a → first a s ≡ bad
 unfolding first
-first-low {a} s i = let h : 0x7F < a = omega arith in rw (lt-leb a 0x7F h, le-leb a 0xC1 i.to)
+first_low {a} s i = let h : 0x7F < a = omega arith in rw (lt-leb a 0x7F h, le-leb a 0xC1 i.to)
 
-pub first-2 : {a : ℕ} (s : List ℕ) → In 0xC2 0xDF a → first a s ≡ two a s
+pub first_2 : {a : ℕ} (s : List ℕ) → In 0xC2 0xDF a → first a s ≡ two a s
 unfolding first
-first-2 {a} s i =
+first_2 {a} s i =
     let h : 0x7F < a = omega arith in
     let l : 0xC1 < a = omega arith in
     rw (lt-leb a 0x7F h, lt-leb a 0xC1 l, le-leb a 0xDF i.to)
 
-pub first-3 : {a : ℕ} (s : List ℕ) → In 0xE0 0xEF a → first a s ≡ three a s
+pub first_3 : {a : ℕ} (s : List ℕ) → In 0xE0 0xEF a → first a s ≡ three a s
 unfolding first
-first-3 {a} s i =
+first_3 {a} s i =
     let h : 0x7F < a = omega arith in
     let l : 0xC1 < a = omega arith in
     let m : 0xDF < a = omega arith in
     rw (lt-leb a 0x7F h, lt-leb a 0xC1 l, lt-leb a 0xDF m, le-leb a 0xEF i.to)
 
-pub first-4 : {a : ℕ} (s : List ℕ) → In 0xF0 0xF4 a → first a s ≡ four a s
+pub first_4 : {a : ℕ} (s : List ℕ) → In 0xF0 0xF4 a → first a s ≡ four a s
 unfolding first
-first-4 {a} s i =
+first_4 {a} s i =
     let h : 0x7F < a = omega arith in
     let l : 0xC1 < a = omega arith in
     let m : 0xDF < a = omega arith in
     let n : 0xEF < a = omega arith in
     rw (lt-leb a 0x7F h, lt-leb a 0xC1 l, lt-leb a 0xDF m, lt-leb a 0xEF n, le-leb a 0xF4 i.to)
 
-pub two-short : (a : ℕ) (r : List ℕ) → length r < 1 → two a r ≡ bad
+pub two_short : (a : ℕ) (r : List ℕ) → length r < 1 → two a r ≡ bad
 unfolding two
-two-short a [] h = refl
-two-short a (b ∷ r) h = absurd (omega arith)
+two_short a [] h = refl
+two_short a (b ∷ r) h = absurd (omega arith)
 
-pub three-short : (a : ℕ) (r : List ℕ) → length r < 2 → three a r ≡ bad
+pub three_short : (a : ℕ) (r : List ℕ) → length r < 2 → three a r ≡ bad
 unfolding three
-three-short a [] h = refl
-three-short a (b ∷ []) h = refl
-three-short a (b ∷ c ∷ r) h = absurd (omega arith)
+three_short a [] h = refl
+three_short a (b ∷ []) h = refl
+three_short a (b ∷ c ∷ r) h = absurd (omega arith)
 
-pub four-short : (a : ℕ) (r : List ℕ) → length r < 3 → four a r ≡ bad
+pub four_short : (a : ℕ) (r : List ℕ) → length r < 3 → four a r ≡ bad
 unfolding four
-four-short a [] h = refl
-four-short a (b ∷ []) h = refl
-four-short a (b ∷ c ∷ []) h = refl
-four-short a (b ∷ c ∷ d ∷ r) h = absurd (omega arith)
+four_short a [] h = refl
+four_short a (b ∷ []) h = refl
+four_short a (b ∷ c ∷ []) h = refl
+four_short a (b ∷ c ∷ d ∷ r) h = absurd (omega arith)
 
-and-false : (a : Bool) {b : Bool} → b ≡ false → (a && b) ≡ false
-and-false true e = e
-and-false false e = refl
+and_false : (a : Bool) {b : Bool} → b ≡ false → (a && b) ≡ false
+and_false true e = e
+and_false false e = refl
 
 -- a second octet outside what the first leaves it
-pub too-low : {a low high b : ℕ} → Second a low high → b < low → between (lowest a) (highest a) b ≡ false
-too-low {a} {b = b} w h = let k : b < lowest a = rw w.from at h in rw (lt-leb (lowest a) b k)
+pub too_low : {a low high b : ℕ} → Second a low high → b < low → between (lowest a) (highest a) b ≡ false
+too_low {a} {b = b} w h = let k : b < lowest a = rw w.from at h in rw (lt-leb (lowest a) b k)
 
-pub too-high : {a low high b : ℕ} → Second a low high → high < b → between (lowest a) (highest a) b ≡ false
-too-high {a} {b = b} w h = let k : highest a < b = rw w.to at h in and-false (leb (lowest a) b) (lt-leb b (highest a) k)
+pub too_high : {a low high b : ℕ} → Second a low high → high < b → between (lowest a) (highest a) b ≡ false
+too_high {a} {b = b} w h = let k : highest a < b = rw w.to at h in and_false (leb (lowest a) b) (lt-leb b (highest a) k)
 
 pub just_so : {a low high b : ℕ} → Second a low high → low ≤ b → b ≤ high → between (lowest a) (highest a) b ≡ true
 just_so {a} {b = b} w l h =
@@ -210,34 +210,34 @@ module _ (s : List ℕ) (at : ℕ) where
   front : (j k : ℕ) → k ≡ suc j → j < length s → drop j s ≡ get_or s j 0 ∷ drop k s
   front j k e h = rw e (drop-cons s j 0 h)
 
-  front-1 : at + 1 < length s → rest ≡ b ∷ drop (at + 2) s
-  front-1 h = front (at + 1) (at + 2) (omega arith) h
+  front_1 : at + 1 < length s → rest ≡ b ∷ drop (at + 2) s
+  front_1 h = front (at + 1) (at + 2) (omega arith) h
 
-  front-2 : at + 2 < length s → rest ≡ b ∷ c ∷ drop (at + 3) s
-  front-2 h = front-1 (omega arith) ∙ ap (λ (l : List ℕ). b ∷ l) (front (at + 2) (at + 3) (omega arith) h)
+  front_2 : at + 2 < length s → rest ≡ b ∷ c ∷ drop (at + 3) s
+  front_2 h = front_1 (omega arith) ∙ ap (λ (l : List ℕ). b ∷ l) (front (at + 2) (at + 3) (omega arith) h)
 
-  front-3 : at + 3 < length s → rest ≡ b ∷ c ∷ d ∷ drop (at + 4) s
-  front-3 h = front-2 (omega arith) ∙ ap (λ (l : List ℕ). b ∷ c ∷ l) (front (at + 3) (at + 4) (omega arith) h)
+  front_3 : at + 3 < length s → rest ≡ b ∷ c ∷ d ∷ drop (at + 4) s
+  front_3 h = front_2 (omega arith) ∙ ap (λ (l : List ℕ). b ∷ c ∷ l) (front (at + 3) (at + 4) (omega arith) h)
 
   pub two_ends : length s - at < 2 → two a rest ≡ bad
-  two_ends h = two-short a rest (simp length-drop (omega arith))
+  two_ends h = two_short a rest (simp length-drop (omega arith))
 
-  pub three-ends : length s - at < 3 → three a rest ≡ bad
-  three-ends h = three-short a rest (simp length-drop (omega arith))
+  pub three_ends : length s - at < 3 → three a rest ≡ bad
+  three_ends h = three_short a rest (simp length-drop (omega arith))
 
-  pub four-ends : length s - at < 4 → four a rest ≡ bad
-  four-ends h = four-short a rest (simp length-drop (omega arith))
+  pub four_ends : length s - at < 4 → four a rest ≡ bad
+  four_ends h = four_short a rest (simp length-drop (omega arith))
 
-  pub two-by : 2 ≤ length s - at → (y : Bool) → isTail b ≡ y → two a rest ≡ cond y (good (a % 32 * 64 + b % 64) 1) bad
+  pub two_by : 2 ≤ length s - at → (y : Bool) → is_tail b ≡ y → two a rest ≡ cond y (good (a % 32 * 64 + b % 64) 1) bad
   unfolding two
-  two-by h y f = let k : at + 1 < length s = omega arith in rw (front-1 k, f)
+  two_by h y f = let k : at + 1 < length s = omega arith in rw (front_1 k, f)
 
-  pub three-by : 3 ≤ length s - at → (x y : Bool) → between (lowest a) (highest a) b ≡ x → isTail c ≡ y
+  pub three_by : 3 ≤ length s - at → (x y : Bool) → between (lowest a) (highest a) b ≡ x → is_tail c ≡ y
       → three a rest ≡ cond (x && y) (good ((a % 16 * 64 + b % 64) * 64 + c % 64) 2) bad
   unfolding three
-  three-by h x y e f = let k : at + 2 < length s = omega arith in rw (front-2 k, e, f)
+  three_by h x y e f = let k : at + 2 < length s = omega arith in rw (front_2 k, e, f)
 
-  pub four-by : 4 ≤ length s - at → (x y z : Bool) → between (lowest a) (highest a) b ≡ x → isTail c ≡ y → isTail d ≡ z
+  pub four_by : 4 ≤ length s - at → (x y z : Bool) → between (lowest a) (highest a) b ≡ x → is_tail c ≡ y → is_tail d ≡ z
       → four a rest ≡ cond (x && y && z) (good (((a % 8 * 64 + b % 64) * 64 + c % 64) * 64 + d % 64) 3) bad
   unfolding four
-  four-by h x y z e f g = let k : at + 3 < length s = omega arith in rw (front-3 k, e, f, g)
+  four_by h x y z e f g = let k : at + 3 < length s = omega arith in rw (front_3 k, e, f, g)

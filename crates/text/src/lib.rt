@@ -1,9 +1,9 @@
 // UTF-8 by RFC 3629: a class for each byte value, the longest well-formed prefix, the character at a place; and White_Space.
 ghost use Rattle.std.specs.Prelude.{◌≡◌, ◌+◌, ◌≤◌, ◌<◌, length, drop, get_or};
-ghost use Rattle.paper.specs.Text.Scalar.{isWhite, LongestPrefix};
+ghost use Rattle.paper.specs.Text.Scalar.{is_white, LongestPrefix};
 ghost use Rattle.paper.specs.Computed.Decode.{two, three, four};
 ghost use Rattle.text.specs.Classes.{class_of, ByClass};
-ghost use Rattle.text.specs.Answers.{NextIs, whiteWidth, nextBy, Second};
+ghost use Rattle.text.specs.Answers.{NextIs, white_width, next_by, Second};
 
 // The classes that RFC 3629, section 4, tells apart. Each is a digit, so that the table below can be read: 0 is ASCII, a character
 // by itself, and 9 an octet in no character.
@@ -75,7 +75,7 @@ pub enum Next {
 fn two_octets<'a>(s: &'a [u8], at: usize, table: &'a [u8; 256]) -> Next
     requires at_in_bounds { at < length s.now }
     requires by_class { ByClass table.now }
-    ensures { result ≡ nextBy at (two (get_or s.now at 0) (drop (at + 1) s.now)) }
+    ensures { result ≡ next_by at (two (get_or s.now at 0) (drop (at + 1) s.now)) }
 {
     if s.len() - at < 2 {
         return Next::Bad;
@@ -96,7 +96,7 @@ fn three_octets<'a>(s: &'a [u8], at: usize, table: &'a [u8; 256], low: u8, high:
     requires at_in_bounds { at < length s.now }
     requires by_class { ByClass table.now }
     requires second { Second (get_or s.now at 0) low high }
-    ensures { result ≡ nextBy at (three (get_or s.now at 0) (drop (at + 1) s.now)) }
+    ensures { result ≡ next_by at (three (get_or s.now at 0) (drop (at + 1) s.now)) }
 {
     if s.len() - at < 3 {
         return Next::Bad;
@@ -124,7 +124,7 @@ fn four_octets<'a>(s: &'a [u8], at: usize, table: &'a [u8; 256], low: u8, high: 
     requires at_in_bounds { at < length s.now }
     requires by_class { ByClass table.now }
     requires second { Second (get_or s.now at 0) low high }
-    ensures { result ≡ nextBy at (four (get_or s.now at 0) (drop (at + 1) s.now)) }
+    ensures { result ≡ next_by at (four (get_or s.now at 0) (drop (at + 1) s.now)) }
 {
     if s.len() - at < 4 {
         return Next::Bad;
@@ -207,7 +207,7 @@ pub fn valid_prefix(s: &[u8]) -> usize
 }
 
 pub fn is_white_space(c: u32) -> bool
-    ensures { result ≡ isWhite c }
+    ensures { result ≡ is_white c }
 {
     match c {
         0x0009..=0x000D | 0x0020 | 0x0085 | 0x00A0 | 0x1680 | 0x2000..=0x200A => true,
@@ -218,7 +218,7 @@ pub fn is_white_space(c: u32) -> bool
 
 // How many bytes of White_Space stand at `at`: those of one character, or none.
 pub fn white_width(s: &[u8], at: usize) -> usize
-    ensures { result ≡ whiteWidth (drop at s.now) }
+    ensures { result ≡ white_width (drop at s.now) }
 {
     if s.len() <= at {
         return 0;

@@ -10,29 +10,29 @@ use lib.Seq.{take-suc, drop-append-le, length-take-le}
 use borrow.Author.Tests.{eq-eqb, ne_eqb}
 use Rattle.paper.specs.Lists.{is}
 use Rattle.paper.specs.Text.Scalar.{cr}
-use Rattle.paper.specs.Computed.ReadUnk.{dropCR}
+use Rattle.paper.specs.Computed.ReadUnk.{drop_cr}
 use Rattle.paper.proofs.Lists.Parts.{nothing}
 use Rattle.unk_enter.specs.Lines.{Inside}
 use Rattle.unk.specs.Walk.{LineStops}
 
 -- ---- the last byte of a line
 
-drop-last : (l : List ℕ) (x : ℕ) → dropCR (l ++ (x ∷ [])) ≡ cond (is cr x) l (l ++ (x ∷ []))
-drop-last [] x = refl
-drop-last (a ∷ []) x = go (is cr x)
+drop_last : (l : List ℕ) (x : ℕ) → drop_cr (l ++ (x ∷ [])) ≡ cond (is cr x) l (l ++ (x ∷ []))
+drop_last [] x = refl
+drop_last (a ∷ []) x = go (is cr x)
   where
     go : (b : Bool) → a ∷ cond b [] (x ∷ []) ≡ cond b (a ∷ []) (a ∷ x ∷ [])
     go true = refl
     go false = refl
-drop-last (a ∷ b ∷ l) x = ap (λ r. a ∷ r) (drop-last (b ∷ l) x) ∙ go (is cr x)
+drop_last (a ∷ b ∷ l) x = ap (λ r. a ∷ r) (drop_last (b ∷ l) x) ∙ go (is cr x)
   where
     go : (t : Bool) → a ∷ cond t (b ∷ l) ((b ∷ l) ++ (x ∷ [])) ≡ cond t (a ∷ b ∷ l) (a ∷ (b ∷ l) ++ (x ∷ []))
     go true = refl
     go false = refl
 
 module _ (text : List ℕ) (start end : ℕ) where
-  last-split : start < end → end ≤ length text → drop start (take end text) ≡ drop start (take (end - 1) text) ++ (get_or text (end - 1) 0 ∷ [])
-  last-split h w =
+  last_split : start < end → end ≤ length text → drop start (take end text) ≡ drop start (take (end - 1) text) ++ (get_or text (end - 1) 0 ∷ [])
+  last_split h w =
       let e : end ≡ suc (end - 1) = omega (arith, add-one (end - 1)) in
       let l : length (take (end - 1) text) ≡ end - 1 = length-take-le (end - 1) text (omega arith) in
       ap (λ n. drop start (take n text)) e
@@ -40,33 +40,33 @@ module _ (text : List ℕ) (start end : ℕ) where
       ∙ drop-append-le start (take (end - 1) text) (get_or text (end - 1) 0 ∷ []) (omega arith)
 
   module _ (i : Inside text start end) where
-    pub stops-last : length text ≤ end → LineStops text start end end
-    stops-last h = record { from = i.order; upto = omega arith; last = λ _. refl; before-LF = λ g. absurd (omega arith) }
+    pub stops_last : length text ≤ end → LineStops text start end end
+    stops_last h = record { from = i.order; upto = omega arith; last = λ _. refl; before_LF = λ g. absurd (omega arith) }
 
-    pub stops-empty : end ≤ start → LineStops text start end end
-    stops-empty h =
-        record { from = i.order; upto = omega arith; last = λ _. refl; before-LF = λ _. nothing text start end h ∙ sym (ap dropCR (nothing text start end h)) }
+    pub stops_empty : end ≤ start → LineStops text start end end
+    stops_empty h =
+        record { from = i.order; upto = omega arith; last = λ _. refl; before_LF = λ _. nothing text start end h ∙ sym (ap drop_cr (nothing text start end h)) }
 
     module _ (more : end < length text) (some : start < end) where
-      pub stops-CR : get_or text (end - 1) 0 ≡ cr → LineStops text start end (end - 1)
-      stops-CR e =
+      pub stops_CR : get_or text (end - 1) 0 ≡ cr → LineStops text start end (end - 1)
+      stops_CR e =
           record {
             from = omega arith;
             upto = omega arith;
             last = λ g. absurd (omega arith);
-            before-LF = λ _. sym
-                (ap dropCR (last-split some (omega arith)) ∙ drop-last (drop start (take (end - 1) text)) (get_or text (end - 1) 0)
+            before_LF = λ _. sym
+                (ap drop_cr (last_split some (omega arith)) ∙ drop_last (drop start (take (end - 1) text)) (get_or text (end - 1) 0)
                 ∙ ap (λ b. cond b (drop start (take (end - 1) text)) (drop start (take (end - 1) text) ++ (get_or text (end - 1) 0 ∷ []))) (eq-eqb (get_or text (end - 1) 0) cr e));
           }
 
-      pub stops-other : (get_or text (end - 1) 0 ≡ cr → ⊥) → LineStops text start end end
-      stops-other n =
+      pub stops_other : (get_or text (end - 1) 0 ≡ cr → ⊥) → LineStops text start end end
+      stops_other n =
           record {
             from = i.order;
             upto = omega arith;
             last = λ g. absurd (omega arith);
-            before-LF = λ _. sym
-                (ap dropCR (last-split some (omega arith)) ∙ drop-last (drop start (take (end - 1) text)) (get_or text (end - 1) 0)
+            before_LF = λ _. sym
+                (ap drop_cr (last_split some (omega arith)) ∙ drop_last (drop start (take (end - 1) text)) (get_or text (end - 1) 0)
                 ∙ ap (λ b. cond b (drop start (take (end - 1) text)) (drop start (take (end - 1) text) ++ (get_or text (end - 1) 0 ∷ []))) (ne_eqb (get_or text (end - 1) 0) cr n)
-                ∙ sym (last-split some (omega arith)));
+                ∙ sym (last_split some (omega arith)));
           }

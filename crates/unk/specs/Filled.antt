@@ -1,14 +1,14 @@
 -- What the functions between the walk and the reader promise: tables of the sizes, filled or zero.
 -- Assumes nothing.
 use Rattle.std.specs.Prelude.{ℕ, ◌≤◌, ◌≡◌, true, false, List, [], map, length}
-use Rattle.paper.specs.Sizes.{maxTextBytes, maxDetailBytes}
-use Rattle.paper.specs.Lists.{joined, offsetsFrom}
+use Rattle.paper.specs.Sizes.{max_text_bytes, max_detail_bytes}
+use Rattle.paper.specs.Lists.{joined, offsets_from}
 use Rattle.paper.specs.Text.Scalar.{WellFormed}
-use Rattle.paper.specs.Numbers.Bytes.{le, u32Size}
+use Rattle.paper.specs.Numbers.Bytes.{le, u32_size}
 use Rattle.paper.specs.Unk.Entry.{Entry, stored}
 use Rattle.paper.specs.Unk.Bad.{refused}
-use Rattle.paper.specs.Computed.HandedIn.{holds, handedIn}
-use Rattle.paper.specs.Computed.ReadUnk.{Entries, entries-are, stops}
+use Rattle.paper.specs.Computed.HandedIn.{holds, handed_in}
+use Rattle.paper.specs.Computed.ReadUnk.{Entries, entries_are, stops}
 use Rattle.paper.specs.Tables.Layout.{Tables}
 use Rattle.paper.specs.Tables.Reader.{clears}
 use Rattle.paper.specs.declared.Counts.{Counts}
@@ -18,42 +18,42 @@ use Rattle.unk.specs.declared.UnkOutcome.TheVariants.{Accepted, Refused}
 use Rattle.unk.specs.declared.Judged.{Judged}
 use Rattle.unk.specs.declared.Judged.TheVariants.{Sound, Unsound}
 use Rattle.unk.specs.Layout.{UnkTables}
-use Rattle.unk_enter.specs.Lines.{entryBytes}
-use Rattle.unk_members.specs.Members.{listsFrom, placeTable, memberTable}
-use Rattle.unk.specs.Parse.{inRoom, overReading, entriesSize, offsetsSize, placesSize, membersSize}
+use Rattle.unk_enter.specs.Lines.{entry_bytes}
+use Rattle.unk_members.specs.Members.{lists_from, place_table, member_table}
+use Rattle.unk.specs.Parse.{in_room, over_reading, entries_size, offsets_size, places_size, members_size}
 
 pub record Sized (t : UnkTables) : Type 0 where
-  pub entries : length t.entries ≡ entriesSize
-  pub offsets : length t.offsets ≡ offsetsSize
-  pub details : length t.details ≡ maxDetailBytes
-  pub places : length t.places ≡ placesSize
-  pub members : length t.members ≡ membersSize
+  pub entries : length t.entries ≡ entries_size
+  pub offsets : length t.offsets ≡ offsets_size
+  pub details : length t.details ≡ max_detail_bytes
+  pub places : length t.places ≡ places_size
+  pub members : length t.members ≡ members_size
 
 -- tables with nothing in them
-unfoldable pub noTables : UnkTables
-noTables = record { entries = []; offsets = []; details = []; places = []; members = [] }
+unfoldable pub no_tables : UnkTables
+no_tables = record { entries = []; offsets = []; details = []; places = []; members = [] }
 
 -- the entries' marks
-abbrev pub marksOf : (List ℕ → ℕ) → List Entry → List ℕ
-marksOf mark es = map (λ e. mark e.category) es
+abbrev pub marks_of : (List ℕ → ℕ) → List Entry → List ℕ
+marks_of mark es = map (λ e. mark e.category) es
 
 -- the tables of entries, over `count` categories
-unfoldable pub laidOut : (List ℕ → ℕ) → ℕ → List Entry → UnkTables
-laidOut mark count es =
+unfoldable pub laid_out : (List ℕ → ℕ) → ℕ → List Entry → UnkTables
+laid_out mark count es =
     record {
-      entries = joined (map (entryBytes mark) es);
-      offsets = joined (map (le u32Size) (offsetsFrom 0 (map stored es)));
+      entries = joined (map (entry_bytes mark) es);
+      offsets = joined (map (le u32_size) (offsets_from 0 (map stored es)));
       details = joined (map stored es);
-      places = placeTable (map length (listsFrom 0 count (marksOf mark es)));
-      members = memberTable (listsFrom 0 count (marksOf mark es));
+      places = place_table (map length (lists_from 0 count (marks_of mark es)));
+      members = member_table (lists_from 0 count (marks_of mark es));
     }
 
 pub record LinesAccepted (mark : List ℕ → ℕ) (count : ℕ) (a : Entries) (after : UnkTables) (c : UnkCounts) : Type 0 where
   pub entries : List Entry
-  pub is : a ≡ entries-are entries
-  pub entries-counted : c.entries ≡ length entries
+  pub is : a ≡ entries_are entries
+  pub entries_counted : c.entries ≡ length entries
   pub bytes_counted : c.bytes ≡ length (joined (map stored entries))
-  pub tables : after ≡ inRoom (laidOut mark count entries)
+  pub tables : after ≡ in_room (laid_out mark count entries)
 
 -- nothing is said of the tables where the walk stopped
 abbrev pub TablesFilled : (List ℕ → ℕ) → ℕ → Entries → UnkTables → UnkOutcome → Type 0
@@ -62,7 +62,7 @@ TablesFilled mark count a after (Refused x) = a ≡ stops x.number x.place
 
 pub record LinesRefused (a : Entries) (after : UnkTables) (number place : ℕ) : Type 0 where
   pub is : a ≡ stops number place
-  pub tables : after ≡ inRoom noTables
+  pub tables : after ≡ in_room no_tables
 
 abbrev pub LinesRead : (List ℕ → ℕ) → ℕ → Entries → UnkTables → UnkOutcome → Type 0
 LinesRead mark count a after (Accepted c) = LinesAccepted mark count a after c
@@ -72,11 +72,11 @@ LinesRead mark count a after (Refused x) = LinesRefused a after x.number x.place
 
 pub record SoundInput (t : Tables) (n : Counts) (text : List ℕ) : Type 0 where
   pub holding : holds t n ≡ true
-  pub short : length text ≤ maxTextBytes
+  pub short : length text ≤ max_text_bytes
   pub formed : WellFormed text
 
 pub record UnsoundInput (t : Tables) (n : Counts) (text : List ℕ) (number place : ℕ) : Type 0 where
-  pub is : overReading (handedIn t n) text ≡ refused number place
+  pub is : over_reading (handed_in t n) text ≡ refused number place
   pub kept : clears number ≡ false
 
 abbrev pub Judges : Tables → Counts → List ℕ → Judged → Type 0

@@ -2,9 +2,9 @@
 -- Assumes nothing.
 use Rattle.std.specs.Prelude.{ℕ, suc, cond, List, [], ◌∷◌, ◌++◌, map, eqb, length}
 use Rattle.paper.specs.Lists.{any, joined}
-use Rattle.paper.specs.Numbers.Bytes.{le, u32Size}
+use Rattle.paper.specs.Numbers.Bytes.{le, u32_size}
 use Rattle.paper.specs.Unk.Entry.{Unk}
-use Rattle.paper.specs.Tables.Layout.{nameSlots, nameSlotBytes, referenceSize}
+use Rattle.paper.specs.Tables.Layout.{name_slots, name_slot_bytes, reference_size}
 use Rattle.unk_enter.specs.Fields.{word_bytes}
 
 pub record UnkTables : Type 0 where
@@ -20,23 +20,23 @@ pub record UnkTables : Type 0 where
   pub members : List ℕ
 
 -- the first category, from number c on, that lists entry k, and 1; 0 where none does
-abbrev pub markAmong : ℕ → List (List ℕ) → ℕ → ℕ
-markAmong c [] k = 0
-markAmong c (ks ∷ kss) k = let r = markAmong (suc c) kss k in cond (any (eqb k) ks) (suc c) r
+abbrev pub mark_among : ℕ → List (List ℕ) → ℕ → ℕ
+mark_among c [] k = 0
+mark_among c (ks ∷ kss) k = let r = mark_among (suc c) kss k in cond (any (eqb k) ks) (suc c) r
 
 -- entries from number k on
-unfoldable pub entryTable : List (List ℕ) → ℕ → List (ℕ × ℕ × ℕ) → List ℕ
+unfoldable pub entry_table : List (List ℕ) → ℕ → List (ℕ × ℕ × ℕ) → List ℕ
 unfolding word_bytes
-entryTable members k [] = []
-entryTable members k ((left, right, cost) ∷ ws) = word_bytes left right cost (markAmong 0 members k) ++ entryTable members (suc k) ws
+entry_table members k [] = []
+entry_table members k ((left, right, cost) ∷ ws) = word_bytes left right cost (mark_among 0 members k) ++ entry_table members (suc k) ws
 
 unfoldable pub layout : Unk → UnkTables
-unfolding nameSlots entryTable
+unfolding name_slots entry_table
 layout u =
     record {
-      entries = entryTable u.members 0 u.wordEntries;
-      offsets = joined (map (le u32Size) u.offsets);
+      entries = entry_table u.members 0 u.word_entries;
+      offsets = joined (map (le u32_size) u.offsets);
       details = u.store;
-      places = joined (map nameSlotBytes (nameSlots 0 (map length u.members)));
-      members = joined (map (le referenceSize) (joined u.members));
+      places = joined (map name_slot_bytes (name_slots 0 (map length u.members)));
+      members = joined (map (le reference_size) (joined u.members));
     }

@@ -2,7 +2,7 @@
 -- Assumes nothing.
 use Rattle.std.specs.Prelude.{ℕ, ◌≤◌, ◌<◌, ◌≡◌, List, length, take, drop}
 use Rattle.paper.specs.Unk.Entry.{Entry}
-use Rattle.paper.specs.Computed.ReadUnk.{dropCR, Entries, entries-are, stops}
+use Rattle.paper.specs.Computed.ReadUnk.{drop_cr, Entries, entries_are, stops}
 use Rattle.unk_enter.specs.declared.UnkCounts.{UnkCounts}
 use Rattle.unk_enter.specs.Lines.{Memory, Held}
 use Rattle.unk.specs.declared.UnkOutcome.{UnkOutcome}
@@ -13,12 +13,12 @@ pub record LineStops (text : List ℕ) (start end stop : ℕ) : Type 0 where
   pub from : start ≤ stop
   pub upto : stop ≤ end
   pub last : length text ≤ end → stop ≡ end
-  pub before-LF : end < length text → drop start (take stop text) ≡ dropCR (drop start (take end text))
+  pub before_LF : end < length text → drop start (take stop text) ≡ drop_cr (drop start (take end text))
 
 -- the text was walked to its end, and memory holds its entries
 pub record WalkEnded (mark : List ℕ → ℕ) (a : Entries) (m : Memory) (c : UnkCounts) : Type 0 where
   pub entries : List Entry
-  pub is : a ≡ entries-are entries
+  pub is : a ≡ entries_are entries
   pub held : Held mark entries m c
 
 abbrev pub Walked : (List ℕ → ℕ) → Entries → Memory → UnkOutcome → Type 0

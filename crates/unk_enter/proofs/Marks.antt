@@ -8,60 +8,60 @@ use mathlib.Core.List.{List, map}
 use mathlib.Core.Option.{some}
 use lib.Dec.{ltb}
 use lib.ListN.{length, take, drop, length-map}
-use Rattle.paper.specs.Refusals.{tablesApart}
+use Rattle.paper.specs.Refusals.{tables_apart}
 use Rattle.paper.specs.Lists.{any}
 use Rattle.paper.specs.Rows.Lookup.{gives, refuses}
-use Rattle.paper.specs.Rows.Numbers.{nameSlotsOf, nameIn, pastStore, lowestNamed, findName}
-use Rattle.paper.specs.Tables.Layout.{pieces, nameSlotOf, nameSlotSize}
+use Rattle.paper.specs.Rows.Numbers.{name_slots_of, name_in, past_store, lowest_named, find_name}
+use Rattle.paper.specs.Tables.Layout.{pieces, name_slot_of, name_slot_size}
 use Rattle.paper.proofs.Apart.{zero_one}
 use Rattle.paper.proofs.Lists.Parts.{take_part}
-use Rattle.paper.proofs.Rows.Lowest.{lowest-first}
-use Rattle.paper.proofs.Tables.Laws.{pieces-length}
+use Rattle.paper.proofs.Rows.Lowest.{lowest_first}
+use Rattle.paper.proofs.Tables.Laws.{pieces_length}
 use Rattle.by_name.specs.Lookup.{said, FindsCategory}
 use Rattle.paper.specs.declared.Refusal.{Refusal}
 use Rattle.by_name.specs.declared.CategoryFound.{CategoryFound}
 use Rattle.by_name.specs.declared.CategoryFound.TheVariants.{Category, Absent, Refused}
-use Rattle.unk_enter.specs.Lines.{Inside, markSaid, markIn}
+use Rattle.unk_enter.specs.Lines.{Inside, mark_said, mark_in}
 
 module _ (store table : List ℕ) (count : ℕ) (name : List ℕ) where
-  named-long : length (map (nameIn store) (nameSlotsOf table count)) ≡ count
-  named-long =
-      length-map (nameSlotsOf table count) (nameIn store) ∙ length-map (pieces nameSlotSize count table) nameSlotOf ∙ pieces-length nameSlotSize count table
+  named_long : length (map (name_in store) (name_slots_of table count)) ≡ count
+  named_long =
+      length-map (name_slots_of table count) (name_in store) ∙ length-map (pieces name_slot_size count table) name_slot_of ∙ pieces_length name_slot_size count table
 
-  pub found_below : (i : ℕ) → findName store table count name ≡ gives (some i) → i < count
-  unfolding findName
-  found_below i e = go (ltb (length table) (nameSlotSize * count) || any (pastStore store) (nameSlotsOf table count)) e
+  pub found_below : (i : ℕ) → find_name store table count name ≡ gives (some i) → i < count
+  unfolding find_name
+  found_below i e = go (ltb (length table) (name_slot_size * count) || any (past_store store) (name_slots_of table count)) e
     where
-      go : (b : Bool) → cond b (refuses tablesApart) (gives (lowestNamed name (map (nameIn store) (nameSlotsOf table count)))) ≡ gives (some i) → i < count
+      go : (b : Bool) → cond b (refuses tables_apart) (gives (lowest_named name (map (name_in store) (name_slots_of table count)))) ≡ gives (some i) → i < count
       go true h = zero_one (cc)
       go false h =
-          let k : lowestNamed name (map (nameIn store) (nameSlotsOf table count)) ≡ some i = cc in
-          let l = (lowest-first name (map (nameIn store) (nameSlotsOf table count)) i k).inside in
-          omega (arith, named-long)
+          let k : lowest_named name (map (name_in store) (name_slots_of table count)) ≡ some i = cc in
+          let l = (lowest_first name (map (name_in store) (name_slots_of table count)) i k).inside in
+          omega (arith, named_long)
 
 -- a part that is lent is the part between its places
-part-is : (text : List ℕ) (start end : ℕ) → Inside text start end → take (end - start) (drop start text) ≡ drop start (take end text)
-part-is text start end w =
+part_is : (text : List ℕ) (start end : ℕ) → Inside text start end → take (end - start) (drop start text) ≡ drop start (take end text)
+part_is text start end w =
     let o = w.order in
     let e : start + (end - start) ≡ end = omega arith in
     take_part start (end - start) text ∙ ap (λ n. drop start (take n text)) e
 
 module _ (store table : List ℕ) (count : ℕ) (text : List ℕ) (start end : ℕ) (w : Inside text start end) {r : CategoryFound}
     (f : FindsCategory store table count (take (end - start) (drop start text)) r) where
-  found : said r ≡ findName store table count (drop start (take end text))
-  found = f.answer ∙ ap (findName store table count) (part-is text start end w)
+  found : said r ≡ find_name store table count (drop start (take end text))
+  found = f.answer ∙ ap (find_name store table count) (part_is text start end w)
 
-  pub mark-below : (i : ℕ) → r ≡ Category i → i < count
-  mark-below i e = found_below store table count (drop start (take end text)) i (sym found ∙ ap said e)
+  pub mark_below : (i : ℕ) → r ≡ Category i → i < count
+  mark_below i e = found_below store table count (drop start (take end text)) i (sym found ∙ ap said e)
 
-  pub mark-category : (i : ℕ) → r ≡ Category i → i + 1 ≡ markIn store table count (drop start (take end text))
-  unfolding markIn
-  mark-category i e = add-one i ∙ ap markSaid (sym (ap said e) ∙ found)
+  pub mark_category : (i : ℕ) → r ≡ Category i → i + 1 ≡ mark_in store table count (drop start (take end text))
+  unfolding mark_in
+  mark_category i e = add-one i ∙ ap mark_said (sym (ap said e) ∙ found)
 
-  pub mark-absent : r ≡ Absent → 0 ≡ markIn store table count (drop start (take end text))
-  unfolding markIn
-  mark-absent e = ap markSaid (sym (ap said e) ∙ found)
+  pub mark_absent : r ≡ Absent → 0 ≡ mark_in store table count (drop start (take end text))
+  unfolding mark_in
+  mark_absent e = ap mark_said (sym (ap said e) ∙ found)
 
-  pub mark-refused : (x : Refusal) → r ≡ Refused x → 0 ≡ markIn store table count (drop start (take end text))
-  unfolding markIn
-  mark-refused x e = ap markSaid (sym (ap said e) ∙ found)
+  pub mark_refused : (x : Refusal) → r ≡ Refused x → 0 ≡ mark_in store table count (drop start (take end text))
+  unfolding mark_in
+  mark_refused x e = ap mark_said (sym (ap said e) ∙ found)

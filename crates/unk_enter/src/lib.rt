@@ -1,12 +1,12 @@
 // Enters one line of unk.def into three lent tables: 23, 24 and 25. The reader in `unk` walks the lines of a text over it.
 ghost use Rattle.std.specs.Prelude.{◌≡◌, ◌+◌, ◌*◌, ◌-◌, ◌≤◌, length, take, drop};
-ghost use Rattle.paper.specs.Sizes.{maxCategories, maxDetailBytes};
-ghost use Rattle.paper.specs.Computed.ReadUnk.{unkLineOf};
+ghost use Rattle.paper.specs.Sizes.{max_categories, max_detail_bytes};
+ghost use Rattle.paper.specs.Computed.ReadUnk.{unk_line_of};
 ghost use Rattle.paper.specs.Tables.Lent.{patch};
-ghost use Rattle.paper.specs.Unk.Entry.{lengthBytes};
-ghost use Rattle.unk_line.specs.Line.{joinedFields, asJoined, storedFields};
-ghost use Rattle.unk_enter.specs.Fields.{entrySize, word_bytes};
-ghost use Rattle.unk_enter.specs.Lines.{Inside, markIn, Placed, RoomLeft, Appended, Asked, Working, Stepped};
+ghost use Rattle.paper.specs.Unk.Entry.{length_bytes};
+ghost use Rattle.unk_line.specs.Line.{joined_fields, as_joined, stored_fields};
+ghost use Rattle.unk_enter.specs.Fields.{entry_size, word_bytes};
+ghost use Rattle.unk_enter.specs.Lines.{Inside, mark_in, Placed, RoomLeft, Appended, Asked, Working, Stepped};
 
 use by_name::CategoryFound;
 use paper::{MAX_UNK_ENTRIES, UNK_ENTRIES_FULL};
@@ -44,7 +44,7 @@ pub enum LineStep {
 }
 
 fn joined_byte(b: u8) -> u8
-    ensures { result ≡ asJoined b }
+    ensures { result ≡ as_joined b }
 {
     if b == COMMA {
         return NUL;
@@ -56,7 +56,7 @@ fn joined_byte(b: u8) -> u8
 fn copy_joined(text: &[u8], start: usize, end: usize, details: &mut [u8], at: usize)
     requires inside { Inside text.now start end }
     requires start_in_bounds { at + (end - start) ≤ length details.old }
-    ensures { details.new ≡ patch at (joinedFields (drop start (take end text.now))) details.old }
+    ensures { details.new ≡ patch at (joined_fields (drop start (take end text.now))) details.old }
 {
     let len = end - start;
     let mut i = 0;
@@ -69,8 +69,8 @@ fn copy_joined(text: &[u8], start: usize, end: usize, details: &mut [u8], at: us
 // One more entry's details: their length, and the fields joined.
 fn put_details(text: &[u8], start: usize, end: usize, details: &mut [u8], at: usize)
     requires inside { Inside text.now start end }
-    requires start_in_bounds { (at + lengthBytes + (end - start) ≤ length details.old) × (end - start ≤ maxDetailBytes) }
-    ensures { details.new ≡ patch at (storedFields (drop start (take end text.now))) details.old }
+    requires start_in_bounds { (at + length_bytes + (end - start) ≤ length details.old) × (end - start ≤ max_detail_bytes) }
+    ensures { details.new ≡ patch at (stored_fields (drop start (take end text.now))) details.old }
 {
     let len = end - start;
     table::put_u32(details, at, len as u32);
@@ -79,8 +79,8 @@ fn put_details(text: &[u8], start: usize, end: usize, details: &mut [u8], at: us
 
 // One more entry of the entry table.
 fn put_entry(entries: &mut [u8], n: usize, left: u16, right: u16, cost: u16, mark: u16)
-    requires { entrySize * n + entrySize ≤ length entries.old }
-    ensures { entries.new ≡ patch (entrySize * n) (word_bytes left right cost mark) entries.old }
+    requires { entry_size * n + entry_size ≤ length entries.old }
+    ensures { entries.new ≡ patch (entry_size * n) (word_bytes left right cost mark) entries.old }
 {
     let at = ENTRY_BYTES * n;
     table::put_u16(entries, at, left);
@@ -99,8 +99,8 @@ fn mark_of(
     end: usize,
 ) -> u16
     requires inside { Inside text.now start end }
-    requires count_le_max_categories { count ≤ maxCategories }
-    ensures { result ≡ markIn names.now categories.now count (drop start (take end text.now)) }
+    requires count_le_max_categories { count ≤ max_categories }
+    ensures { result ≡ mark_in names.now categories.now count (drop start (take end text.now)) }
 {
     match by_name::find_category(names, categories, count, &text[start..end]) {
         CategoryFound::Category(i) => (i + 1) as u16,
@@ -124,9 +124,9 @@ fn append_entry(
     counts: UnkCounts,
 ) -> UnkCounts
     requires placed { Placed text.now start end e }
-    requires count_le_max_categories { count ≤ maxCategories }
+    requires count_le_max_categories { count ≤ max_categories }
     requires room_left { RoomLeft (record { entries = entries.now; offsets = offsets.old; details = details.old }) counts (end - e.details) }
-    ensures { Appended (markIn names.now categories.now count) text.now start end e (record { entries = entries.entry.now; offsets = offsets.old; details = details.old }) counts (record { entries = entries.exit.now; offsets = offsets.new; details = details.new }) result }
+    ensures { Appended (mark_in names.now categories.now count) text.now start end e (record { entries = entries.entry.now; offsets = offsets.old; details = details.old }) counts (record { entries = entries.exit.now; offsets = offsets.new; details = details.new }) result }
 {
     let n = counts.entries;
     let used = counts.bytes;
@@ -157,8 +157,8 @@ pub fn enter_line(
 ) -> LineStep
     requires inside { Inside text.now start end }
     requires asked { Asked count end start counts }
-    requires working { Working (markIn names.now categories.now count) (record { entries = entries.now; offsets = offsets.old; details = details.old }) counts }
-    ensures { Stepped (markIn names.now categories.now count) (unkLineOf (drop start (take end text.now))) (record { entries = entries.entry.now; offsets = offsets.old; details = details.old }) counts (record { entries = entries.exit.now; offsets = offsets.new; details = details.new }) result }
+    requires working { Working (mark_in names.now categories.now count) (record { entries = entries.now; offsets = offsets.old; details = details.old }) counts }
+    ensures { Stepped (mark_in names.now categories.now count) (unk_line_of (drop start (take end text.now))) (record { entries = entries.entry.now; offsets = offsets.old; details = details.old }) counts (record { entries = entries.exit.now; offsets = offsets.new; details = details.new }) result }
 {
     match unk_line::parse_dictionary_entry(text, start, end) {
         UnkLine::NoEntry(k) => LineStep::Stop(k),

@@ -8,13 +8,13 @@ use mathlib.Core.Bool.{Bool, true, false, cond}
 use mathlib.Core.List.{List, [], ◌∷◌}
 use lib.ListN.{length, take, drop}
 use lib.Seq.{drop-drop, take-take}
-use Rattle.paper.specs.Sizes.{lineFields}
-use Rattle.paper.specs.Lists.{until, is, cut, push, joinWith}
+use Rattle.paper.specs.Sizes.{line_fields}
+use Rattle.paper.specs.Lists.{until, is, cut, push, join_with}
 use Rattle.paper.specs.Text.Scalar.{comma}
 use Rattle.paper.specs.Unk.Entry.{nul}
 use Rattle.paper.proofs.Lists.Parts.{nothing, part_length, take_part}
 use Rattle.numeral.specs.Asked.{Least}
-use Rattle.unk_line.specs.Line.{joinedFields}
+use Rattle.unk_line.specs.Line.{joined_fields}
 use Rattle.unk_line.specs.Asked.{FourAre}
 
 -- ---- cuts
@@ -31,18 +31,18 @@ module _ {A : Type 0} (p : A → Bool) where
       go true h ih = refl
       go false h ih = ap (push x) (ih (omega arith))
 
-  pub cut-none : (l : List A) → length l ≤ length (until p l) → cut p l ≡ l ∷ []
-  cut-none [] h = refl
-  cut-none (x ∷ l) h = go (p x) h (cut-none l)
+  pub cut_none : (l : List A) → length l ≤ length (until p l) → cut p l ≡ l ∷ []
+  cut_none [] h = refl
+  cut_none (x ∷ l) h = go (p x) h (cut_none l)
     where
       go : (b : Bool) → suc (length l) ≤ length (cond b [] (x ∷ until p l)) → (length l ≤ length (until p l) → cut p l ≡ l ∷ [])
           → cond b ([] ∷ cut p l) (push x (cut p l)) ≡ (x ∷ l) ∷ []
       go true h ih = absurd (omega arith)
       go false h ih = ap (push x) (ih (omega arith))
 
-  pub until-length : (l : List A) → length (until p l) ≤ length l
-  until-length [] = omega arith
-  until-length (x ∷ l) = go (p x) (until-length l)
+  pub until_length : (l : List A) → length (until p l) ≤ length l
+  until_length [] = omega arith
+  until_length (x ∷ l) = go (p x) (until_length l)
     where
       go : (b : Bool) → length (until p l) ≤ length l → length (cond b [] (x ∷ until p l)) ≤ suc (length l)
       go true h = omega arith
@@ -51,18 +51,18 @@ module _ {A : Type 0} (p : A → Bool) where
 -- ---- by places
 
 module _ (byte : ℕ) (text : List ℕ) (start end at : ℕ) (within : end ≤ length text) (e : at ≡ start + length (until (is byte) (drop start (take end text)))) where
-  pub piece-from : start ≤ at
-  piece-from = omega arith
+  pub piece_from : start ≤ at
+  piece_from = omega arith
 
   -- the scan ends in the part
-  pub piece-upto : start ≤ end → at ≤ end
-  piece-upto h =
-      let a = until-length (is byte) (drop start (take end text)) in
+  pub piece_upto : start ≤ end → at ≤ end
+  piece_upto h =
+      let a = until_length (is byte) (drop start (take end text)) in
       let b = part_length text start end within in
       omega arith
 
-  pub piece-first : at < end → cut (is byte) (drop start (take end text)) ≡ drop start (take at text) ∷ cut (is byte) (drop (at + 1) (take end text))
-  piece-first h =
+  pub piece_first : at < end → cut (is byte) (drop start (take end text)) ≡ drop start (take at text) ∷ cut (is byte) (drop (at + 1) (take end text))
+  piece_first h =
       let n = length (until (is byte) (drop start (take end text))) in
       let b = part_length text start end within in
       let k : start + suc (length (until (is byte) (drop start (take end text)))) ≡ at + 1 = omega arith in
@@ -72,57 +72,57 @@ module _ (byte : ℕ) (text : List ℕ) (start end at : ℕ) (within : end ≤ l
       ∙ ap (drop start) (take-take at end text (omega arith)))
       (drop-drop (suc (length (until (is byte) (drop start (take end text))))) start (take end text) ∙ ap (λ m. drop m (take end text)) k)
 
-  pub piece-last : end ≤ at → cut (is byte) (drop start (take end text)) ≡ drop start (take end text) ∷ []
-  piece-last h =
+  pub piece_last : end ≤ at → cut (is byte) (drop start (take end text)) ≡ drop start (take end text) ∷ []
+  piece_last h =
       let b = part_length text start end within in
-      cut-none (is byte) (drop start (take end text)) (omega arith)
+      cut_none (is byte) (drop start (take end text)) (omega arith)
 
 -- ---- four of them
 
 -- where the commas of a line are sought
-abbrev commaAt : List ℕ → ℕ → ℕ → ℕ
-commaAt text start end = start + length (until (is comma) (drop start (take end text)))
+abbrev comma_at : List ℕ → ℕ → ℕ → ℕ
+comma_at text start end = start + length (until (is comma) (drop start (take end text)))
 
-module _ (text : List ℕ) (start end first : ℕ) (within : end ≤ length text) (e₁ : first ≡ commaAt text start end) where
-  pub one_field : end ≤ first → length (cut (is comma) (drop start (take end text))) < lineFields
-  one_field h = let a = ap length (piece-last comma text start end first within e₁ h) in omega arith
+module _ (text : List ℕ) (start end first : ℕ) (within : end ≤ length text) (e₁ : first ≡ comma_at text start end) where
+  pub one_field : end ≤ first → length (cut (is comma) (drop start (take end text))) < line_fields
+  one_field h = let a = ap length (piece_last comma text start end first within e₁ h) in omega arith
 
-  module _ (h₁ : first < end) (second : ℕ) (e₂ : second ≡ commaAt text (first + 1) end) where
-    pub two_fields : end ≤ second → length (cut (is comma) (drop start (take end text))) < lineFields
+  module _ (h₁ : first < end) (second : ℕ) (e₂ : second ≡ comma_at text (first + 1) end) where
+    pub two_fields : end ≤ second → length (cut (is comma) (drop start (take end text))) < line_fields
     two_fields h =
-        let a = ap length (piece-first comma text start end first within e₁ h₁) in
-        let b = ap length (piece-last comma text (first + 1) end second within e₂ h) in
+        let a = ap length (piece_first comma text start end first within e₁ h₁) in
+        let b = ap length (piece_last comma text (first + 1) end second within e₂ h) in
         omega arith
 
-    module _ (h₂ : second < end) (third : ℕ) (e₃ : third ≡ commaAt text (second + 1) end) where
-      pub three-fields : end ≤ third → length (cut (is comma) (drop start (take end text))) < lineFields
-      three-fields h =
-          let a = ap length (piece-first comma text start end first within e₁ h₁) in
-          let b = ap length (piece-first comma text (first + 1) end second within e₂ h₂) in
-          let d = ap length (piece-last comma text (second + 1) end third within e₃ h) in
+    module _ (h₂ : second < end) (third : ℕ) (e₃ : third ≡ comma_at text (second + 1) end) where
+      pub three_fields : end ≤ third → length (cut (is comma) (drop start (take end text))) < line_fields
+      three_fields h =
+          let a = ap length (piece_first comma text start end first within e₁ h₁) in
+          let b = ap length (piece_first comma text (first + 1) end second within e₂ h₂) in
+          let d = ap length (piece_last comma text (second + 1) end third within e₃ h) in
           omega arith
 
-      module _ (h₃ : third < end) (fourth : ℕ) (e₄ : fourth ≡ commaAt text (third + 1) end) where
+      module _ (h₃ : third < end) (fourth : ℕ) (e₄ : fourth ≡ comma_at text (third + 1) end) where
         front : (rest : List (List ℕ)) → cut (is comma) (drop (third + 1) (take end text)) ≡ drop (third + 1) (take fourth text) ∷ rest
             → cut (is comma) (drop start (take end text))
             ≡ drop start (take first text) ∷ drop (first + 1) (take second text) ∷ drop (second + 1) (take third text) ∷ drop (third + 1) (take fourth text) ∷ rest
         front rest e =
-            piece-first comma text start end first within e₁ h₁
-            ∙ ap (λ (l : List (List ℕ)). drop start (take first text) ∷ l) (piece-first comma text (first + 1) end second within e₂ h₂
-            ∙ ap (λ (l : List (List ℕ)). drop (first + 1) (take second text) ∷ l) (piece-first comma text (second + 1) end third within e₃ h₃
+            piece_first comma text start end first within e₁ h₁
+            ∙ ap (λ (l : List (List ℕ)). drop start (take first text) ∷ l) (piece_first comma text (first + 1) end second within e₂ h₂
+            ∙ ap (λ (l : List (List ℕ)). drop (first + 1) (take second text) ∷ l) (piece_first comma text (second + 1) end third within e₃ h₃
             ∙ ap (λ (l : List (List ℕ)). drop (second + 1) (take third text) ∷ l) e))
 
-        pub four-fields : (k : ℕ) → Least fourth (end - 1) k
+        pub four_fields : (k : ℕ) → Least fourth (end - 1) k
             → FourAre text start end (record { first = first; second = second; third = third; fourth = fourth; more = k + 1 })
-        four-fields k l = elim (dec_le end fourth) [
-          | yes h ↦ none-behind h
-          | no h ↦ some-behind (omega arith)
+        four_fields k l = elim (dec_le end fourth) [
+          | yes h ↦ none_behind h
+          | no h ↦ some_behind (omega arith)
         ]
           where
-            from-four : (behind : List (List ℕ)) → cut (is comma) (drop (third + 1) (take end text)) ≡ drop (third + 1) (take fourth text) ∷ behind
-                → joinWith nul behind ≡ joinedFields (drop (k + 1) (take end text)) → FourAre text start end (record { first = first; second = second; third = third; fourth = fourth; more = k + 1 })
-            from-four behind c j =
-                let a = piece-upto comma text (third + 1) end fourth within e₄ (omega arith) in
+            from_four : (behind : List (List ℕ)) → cut (is comma) (drop (third + 1) (take end text)) ≡ drop (third + 1) (take fourth text) ∷ behind
+                → join_with nul behind ≡ joined_fields (drop (k + 1) (take end text)) → FourAre text start end (record { first = first; second = second; third = third; fourth = fourth; more = k + 1 })
+            from_four behind c j =
+                let a = piece_upto comma text (third + 1) end fourth within e₄ (omega arith) in
                 let b = l.second in
                 record {
                   behind = behind;
@@ -136,19 +136,19 @@ module _ (text : List ℕ) (start end first : ℕ) (within : end ≤ length text
                   rest = omega arith;
                 }
 
-            none-behind : end ≤ fourth → FourAre text start end (record { first = first; second = second; third = third; fourth = fourth; more = k + 1 })
-            none-behind h =
-                let a = piece-upto comma text (third + 1) end fourth within e₄ (omega arith) in
+            none_behind : end ≤ fourth → FourAre text start end (record { first = first; second = second; third = third; fourth = fourth; more = k + 1 })
+            none_behind h =
+                let a = piece_upto comma text (third + 1) end fourth within e₄ (omega arith) in
                 let q : end ≡ fourth = omega arith in
                 let m : k ≡ end - 1 = l.one (omega arith) in
                 let n : end ≤ k + 1 = omega arith in
-                from-four []
-                (piece-last comma text (third + 1) end fourth within e₄ h ∙ ap (λ j. drop (third + 1) (take j text) ∷ []) q)
-                (sym (ap joinedFields (nothing text (k + 1) end n)))
+                from_four []
+                (piece_last comma text (third + 1) end fourth within e₄ h ∙ ap (λ j. drop (third + 1) (take j text) ∷ []) q)
+                (sym (ap joined_fields (nothing text (k + 1) end n)))
 
-            some-behind : fourth < end → FourAre text start end (record { first = first; second = second; third = third; fourth = fourth; more = k + 1 })
-            some-behind h =
+            some_behind : fourth < end → FourAre text start end (record { first = first; second = second; third = third; fourth = fourth; more = k + 1 })
+            some_behind h =
                 let m : k ≡ fourth = l.other (omega arith) in
-                from-four (cut (is comma) (drop (fourth + 1) (take end text)))
-                (piece-first comma text (third + 1) end fourth within e₄ h)
-                (ap (λ j. joinedFields (drop (j + 1) (take end text))) (sym m))
+                from_four (cut (is comma) (drop (fourth + 1) (take end text)))
+                (piece_first comma text (third + 1) end fourth within e₄ h)
+                (ap (λ j. joined_fields (drop (j + 1) (take end text))) (sym m))

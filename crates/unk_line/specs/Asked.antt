@@ -2,15 +2,15 @@
 -- Assumes nothing.
 use Rattle.std.specs.Prelude.{ℕ, ◌+◌, ◌%◌, ◌≤◌, ◌<◌, ◌≡◌, List, ◌∷◌, length, take, drop}
 use Rattle.std.proofs.Math.Option.{Option, none, some}
-use Rattle.paper.specs.Sizes.{lineFields}
-use Rattle.paper.specs.Lists.{cut, is, joinWith}
+use Rattle.paper.specs.Sizes.{line_fields}
+use Rattle.paper.specs.Lists.{cut, is, join_with}
 use Rattle.paper.specs.Text.Scalar.{comma}
-use Rattle.paper.specs.Refusals.{unkNumber}
+use Rattle.paper.specs.Refusals.{unk_number}
 use Rattle.paper.specs.Numbers.Numeral.{Integer, modulus16, wrap16}
 use Rattle.paper.specs.Unk.Entry.{nul}
 use Rattle.numeral.specs.declared.Number.{Number}
 use Rattle.numeral.specs.declared.Number.TheVariants as number
-use Rattle.unk_line.specs.Line.{joinedFields}
+use Rattle.unk_line.specs.Line.{joined_fields}
 use Rattle.unk_line.specs.declared.FourFields.{FourFields}
 use Rattle.unk_line.specs.declared.Fields.{Fields}
 use Rattle.unk_line.specs.declared.Fields.TheVariants as fields
@@ -28,7 +28,7 @@ pub record FourAre (text : List ℕ) (start end : ℕ) (f : FourFields) : Type 0
       ∷ drop (f.second + 1) (take f.third text)
       ∷ drop (f.third + 1) (take f.fourth text)
       ∷ behind
-  pub joined : joinWith nul behind ≡ joinedFields (drop f.more (take end text))
+  pub joined : join_with nul behind ≡ joined_fields (drop f.more (take end text))
   pub from : start ≤ f.first
   pub one : f.first < f.second
   pub two : f.second < f.third
@@ -38,23 +38,23 @@ pub record FourAre (text : List ℕ) (start end : ℕ) (f : FourFields) : Type 0
 
 abbrev pub FieldsAre : List ℕ → ℕ → ℕ → Fields → Type 0
 FieldsAre text start end (fields.Four f) = FourAre text start end f
-FieldsAre text start end fields.UnderFour = length (cut (is comma) (drop start (take end text))) < lineFields
+FieldsAre text start end fields.UnderFour = length (cut (is comma) (drop start (take end text))) < line_fields
 
 -- ---- numbers
 
-abbrev pub saidCost : Cost → Option ℕ
-saidCost (cost.Kept n) = some n
-saidCost cost.Bad = none
+abbrev pub said_cost : Cost → Option ℕ
+said_cost (cost.Kept n) = some n
+said_cost cost.Bad = none
 
 -- "cost modulo 65,536 as a signed 16-bit number"
-abbrev pub keptCost : Option Integer → Option ℕ
-keptCost none = none
-keptCost (some i) = some (wrap16 i)
+abbrev pub kept_cost : Option Integer → Option ℕ
+kept_cost none = none
+kept_cost (some i) = some (wrap16 i)
 
 -- the entry of a line's places and numbers: 24 where one is unreadable
-abbrev pub entryAnswer : FourFields → Number → Number → Cost → UnkLine
-entryAnswer f number.Bad right c = line.NoEntry unkNumber
-entryAnswer f (number.Value l) number.Bad c = line.NoEntry unkNumber
-entryAnswer f (number.Value l) (number.Value r) cost.Bad = line.NoEntry unkNumber
-entryAnswer f (number.Value l) (number.Value r) (cost.Kept c) =
+abbrev pub entry_answer : FourFields → Number → Number → Cost → UnkLine
+entry_answer f number.Bad right c = line.NoEntry unk_number
+entry_answer f (number.Value l) number.Bad c = line.NoEntry unk_number
+entry_answer f (number.Value l) (number.Value r) cost.Bad = line.NoEntry unk_number
+entry_answer f (number.Value l) (number.Value r) (cost.Kept c) =
     line.Entry (record { surface = f.first; left = l % modulus16; right = r % modulus16; cost = c; details = f.more })

@@ -1,26 +1,26 @@
 -- One line of unk.def: what the answer of its reader says, in the paper's terms.
 -- Assumes nothing.
 use Rattle.std.specs.Prelude.{ℕ, ◌≤◌, ◌≡◌, cond, List, ◌++◌, length, take, drop}
-use Rattle.paper.specs.Lists.{cut, is, joinWith}
+use Rattle.paper.specs.Lists.{cut, is, join_with}
 use Rattle.paper.specs.Text.Scalar.{comma}
 use Rattle.paper.specs.Numbers.Bytes.{le}
-use Rattle.paper.specs.Unk.Entry.{Entry, nul, lengthBytes}
-use Rattle.paper.specs.Computed.ReadUnk.{UnkFound, entry, no-entry}
+use Rattle.paper.specs.Unk.Entry.{Entry, nul, length_bytes}
+use Rattle.paper.specs.Computed.ReadUnk.{UnkFound, entry, no_entry}
 use Rattle.unk_line.specs.declared.UnkEntry.{UnkEntry}
 use Rattle.unk_line.specs.declared.UnkLine.{UnkLine}
 use Rattle.unk_line.specs.declared.UnkLine.TheVariants as line
 
 -- "Details are the remaining fields joined by NUL"
-abbrev pub joinedFields : List ℕ → List ℕ
-joinedFields l = joinWith nul (cut (is comma) l)
+abbrev pub joined_fields : List ℕ → List ℕ
+joined_fields l = join_with nul (cut (is comma) l)
 
 -- a byte of them: the part with NUL for each comma, as `Joined` of the proofs shows
-abbrev pub asJoined : ℕ → ℕ
-asJoined b = cond (is comma b) nul b
+abbrev pub as_joined : ℕ → ℕ
+as_joined b = cond (is comma b) nul b
 
 -- "behind a 4-byte little-endian length"
-unfoldable pub storedFields : List ℕ → List ℕ
-storedFields l = le lengthBytes (length (joinedFields l)) ++ joinedFields l
+unfoldable pub stored_fields : List ℕ → List ℕ
+stored_fields l = le length_bytes (length (joined_fields l)) ++ joined_fields l
 
 -- the entry whose first field begins at `start`, in a line that ends at `end`
 abbrev pub entry_at : List ℕ → ℕ → ℕ → UnkEntry → Entry
@@ -30,16 +30,16 @@ entry_at text start end e =
       left = e.left;
       right = e.right;
       cost = e.cost;
-      details = joinedFields (drop e.details (take end text));
+      details = joined_fields (drop e.details (take end text));
     }
 
 -- an entry's places lie in the line
 pub record SaysEntry (text : List ℕ) (start end : ℕ) (found : UnkFound) (e : UnkEntry) : Type 0 where
   pub is : found ≡ entry (entry_at text start end e)
   pub from : start ≤ e.surface
-  pub surface-inside : e.surface ≤ length (take end text)
-  pub details-inside : e.details ≤ length (take end text)
+  pub surface_inside : e.surface ≤ length (take end text)
+  pub details_inside : e.details ≤ length (take end text)
 
 abbrev pub SaysLine : List ℕ → ℕ → ℕ → UnkFound → UnkLine → Type 0
 SaysLine text start end found (line.Entry e) = SaysEntry text start end found e
-SaysLine text start end found (line.NoEntry n) = found ≡ no-entry n
+SaysLine text start end found (line.NoEntry n) = found ≡ no_entry n

@@ -2,11 +2,11 @@
 // a part that reaches past the text is cut at its end, and one that starts behind its end is empty.
 ghost use Rattle.std.specs.Prelude.{◌≡◌, ◌+◌, ◌≤◌, length, take, drop};
 ghost use Rattle.paper.specs.Lists.{until, is};
-ghost use Rattle.paper.specs.Computed.ReadUnk.{unkLineOf};
+ghost use Rattle.paper.specs.Computed.ReadUnk.{unk_line_of};
 ghost use Rattle.numeral.specs.Asked.{Least};
-ghost use Rattle.numeral.specs.Said.{saidSigned};
+ghost use Rattle.numeral.specs.Said.{said_signed};
 ghost use Rattle.unk_line.specs.Line.{SaysLine};
-ghost use Rattle.unk_line.specs.Asked.{FieldsAre, saidCost, keptCost, entryAnswer};
+ghost use Rattle.unk_line.specs.Asked.{FieldsAre, said_cost, kept_cost, entry_answer};
 
 use numeral::{Number, Signed};
 use paper::{UNK_FIELDS, UNK_NUMBER};
@@ -112,7 +112,7 @@ fn fields_of(text: &[u8], start: usize, end: usize) -> Fields
 
 // The cost kept: "modulo 65,536 as a signed 16-bit number", which for a negative one is its two's complement.
 fn cost_of(cost: Signed) -> Cost
-    ensures { saidCost result ≡ keptCost (saidSigned cost) }
+    ensures { said_cost result ≡ kept_cost (said_signed cost) }
 {
     match cost {
         Signed::Plus(size) => Cost::Kept((size % MODULUS) as u16),
@@ -123,7 +123,7 @@ fn cost_of(cost: Signed) -> Cost
 
 // The entry of four fields and three numbers: 24 where one is unreadable.
 fn entry_of(fields: FourFields, left: Number, right: Number, cost: Cost) -> UnkLine
-    ensures { result ≡ entryAnswer fields left right cost }
+    ensures { result ≡ entry_answer fields left right cost }
 {
     match left {
         Number::Bad => UnkLine::NoEntry(UNK_NUMBER),
@@ -145,7 +145,7 @@ fn entry_of(fields: FourFields, left: Number, right: Number, cost: Cost) -> UnkL
 
 // The line from `start` to `end`: 23 before 24.
 pub fn parse_dictionary_entry(text: &[u8], start: usize, end: usize) -> UnkLine
-    ensures { SaysLine text.now start end (unkLineOf (drop start (take end text.now))) result }
+    ensures { SaysLine text.now start end (unk_line_of (drop start (take end text.now))) result }
 {
     let stop = least(end, text.len());
     match fields_of(text, start, stop) {

@@ -1,12 +1,12 @@
 // A window of code points: the slots that have to do with it, gathered once for all rows in it, and the covering rule by them. A walk from boundary
 // to boundary goes by windows.
 ghost use Rattle.std.specs.Prelude.{◌≡◌, ◌+◌, ◌*◌, ◌≤◌, ◌<◌, length};
-ghost use Rattle.paper.specs.Sizes.{maxCategories, maxRanges, maxU32};
-ghost use Rattle.paper.specs.Tables.Layout.{rangeSlotSize};
-ghost use Rattle.cover.specs.Slots.{slotGot, slotsGot, coversGot};
+ghost use Rattle.paper.specs.Sizes.{max_categories, max_ranges, max_u32};
+ghost use Rattle.paper.specs.Tables.Layout.{range_slot_size};
+ghost use Rattle.cover.specs.Slots.{slot_got, slots_got, covers_got};
 ghost use Rattle.cover.specs.Stamps.{Rowed};
-ghost use Rattle.cover.specs.Fallback.{fallbackRow};
-ghost use Rattle.window.specs.Near.{noBoundary, isFar, Copied, Gathers, InWindow};
+ghost use Rattle.cover.specs.Fallback.{fallback_row};
+ghost use Rattle.window.specs.Near.{no_boundary, is_far, Copied, Gathers, InWindow};
 
 use cover::Fallback;
 use table::{COUNT_AT, FIRST_AT, RANGE_BYTES, UPPER_AT};
@@ -43,8 +43,8 @@ fn wide(x: u16) -> u32
 
 // Range i has nothing to do with the code points from `from` up to `to`.
 fn is_far(ranges: &[u8], i: usize, from: u32, to: u32) -> bool
-    requires { i ≤ maxRanges }
-    ensures { result ≡ isFar from to (slotGot i ranges.now) }
+    requires { i ≤ max_ranges }
+    ensures { result ≡ is_far from to (slot_got i ranges.now) }
 {
     let lower = wide(table::get_u16(ranges, RANGE_BYTES * i));
     let upper = wide(table::get_u16(ranges, RANGE_BYTES * i + UPPER_AT));
@@ -65,9 +65,9 @@ fn is_far(ranges: &[u8], i: usize, from: u32, to: u32) -> bool
 
 // Slot n of one table becomes slot i of another.
 fn copy_slot(ranges: &[u8], i: usize, near: &mut [u8], n: usize)
-    requires i_le_max_ranges { i ≤ maxRanges }
-    requires range_slot_size_in_bounds { rangeSlotSize * n + rangeSlotSize ≤ length near.old }
-    ensures { Copied (slotGot i ranges.now) n near.old near.new }
+    requires i_le_max_ranges { i ≤ max_ranges }
+    requires range_slot_size_in_bounds { range_slot_size * n + range_slot_size ≤ length near.old }
+    ensures { Copied (slot_got i ranges.now) n near.old near.new }
 {
     let from = RANGE_BYTES * i;
     let lower = table::get_u16(ranges, from);
@@ -83,7 +83,7 @@ fn copy_slot(ranges: &[u8], i: usize, near: &mut [u8], n: usize)
 
 // The slots that have to do with the code points from `from` up to `to`, into a table of their own.
 fn gather(ranges: &[u8], count: usize, from: u32, to: u32, near: &mut [u8]) -> Gathered
-    requires { count ≤ maxRanges }
+    requires { count ≤ max_ranges }
     ensures { Gathers ranges.now near.new count from to result }
 {
     table::zero(near, near.len());
@@ -106,7 +106,7 @@ fn gather(ranges: &[u8], count: usize, from: u32, to: u32, near: &mut [u8]) -> G
 
 // The window that begins at a boundary.
 pub fn open_window(ranges: &[u8], count: usize, b: u32, near: &mut [u8]) -> Window
-    requires { (count ≤ maxRanges) × (b ≤ noBoundary) }
+    requires { (count ≤ max_ranges) × (b ≤ no_boundary) }
     ensures { (result.at ≡ b) × InWindow ranges.now near.new count result }
 {
     let to = b + WINDOW;
@@ -141,9 +141,9 @@ pub fn covering_near(
     out: &mut [u16],
     at: usize,
 ) -> usize
-    requires count_le_max_ranges { (count ≤ maxRanges) × ((at ≤ maxU32) × (length seen.old ≤ maxCategories)) }
+    requires count_le_max_ranges { (count ≤ max_ranges) × ((at ≤ max_u32) × (length seen.old ≤ max_categories)) }
     requires in_window { InWindow ranges.now near.now count w }
-    ensures { Rowed stamp (coversGot w.at (slotsGot 0 count ranges.now) references.now) (fallbackRow fallback) seen.old seen.new out.old out.new at result }
+    ensures { Rowed stamp (covers_got w.at (slots_got 0 count ranges.now) references.now) (fallback_row fallback) seen.old seen.new out.old out.new at result }
 {
     let b = w.at;
     if w.held {

@@ -1,8 +1,8 @@
 // Lookups over any lent tables of unk.def: U, `lookup_word_ids`, `word_entry`, `word_details`. No table is believed: what would lie outside of one is
 // 26.
 ghost use Rattle.std.specs.Prelude.{◌≡◌, ◌≤◌};
-ghost use Rattle.word.specs.Words.{wordIdsIn, wordEntryIn, spanAt, wordDetailsIn, found, entry, held};
-ghost use Rattle.paper.specs.Sizes.{maxU32};
+ghost use Rattle.word.specs.Words.{word_ids_in, word_entry_in, span_at, word_details_in, found, entry, held};
+ghost use Rattle.paper.specs.Sizes.{max_u32};
 
 use paper::{NUMBER_UNKNOWN, Refusal, TABLES_APART};
 use table::{CATEGORY_BYTES, NAME_LENGTH_AT, REFERENCE_BYTES};
@@ -38,7 +38,7 @@ pub enum WordFound {
 // Where the entries of a category stand among the members, two bytes each: 15 where there are no more categories than `id`, 26 where its place or the
 // part runs past.
 pub fn locate_word_ids(places: &[u8], members: &[u8], count: usize, id: usize) -> SpanFound
-    ensures { result ≡ found (wordIdsIn places.now members.now count id) }
+    ensures { result ≡ found (word_ids_in places.now members.now count id) }
 {
     if count <= id {
         return SpanFound::Refused(Refusal {
@@ -68,7 +68,7 @@ pub fn locate_word_ids(places: &[u8], members: &[u8], count: usize, id: usize) -
 
 // The entries of a category, a part of the members; empty where `locate_word_ids` refuses.
 pub fn lookup_word_ids<'a>(places: &[u8], members: &'a [u8], count: usize, id: usize) -> &'a [u8]
-    ensures { result.now ≡ held members.now (wordIdsIn places.now members.now count id) }
+    ensures { result.now ≡ held members.now (word_ids_in places.now members.now count id) }
 {
     match locate_word_ids(places, members, count, id) {
         SpanFound::At(s) => {
@@ -82,7 +82,7 @@ pub fn lookup_word_ids<'a>(places: &[u8], members: &'a [u8], count: usize, id: u
 
 // Left, right and cost of an entry: 15 where there are no more than `id`, 26 where it runs past the table.
 pub fn word_entry(entries: &[u8], count: usize, id: usize) -> WordFound
-    ensures { result ≡ entry (wordEntryIn entries.now count id) }
+    ensures { result ≡ entry (word_entry_in entries.now count id) }
 {
     if count <= id {
         return WordFound::Refused(Refusal {
@@ -106,8 +106,8 @@ pub fn word_entry(entries: &[u8], count: usize, id: usize) -> WordFound
 
 // Where the details at an offset stand, behind their length: 26 where the length or they run past.
 fn details_at(details: &[u8], at: usize) -> SpanFound
-    requires { at ≤ maxU32 }
-    ensures { result ≡ found (spanAt details.now at) }
+    requires { at ≤ max_u32 }
+    ensures { result ≡ found (span_at details.now at) }
 {
     let start = at + LENGTH_BYTES;
     if details.len() < start {
@@ -128,7 +128,7 @@ fn details_at(details: &[u8], at: usize) -> SpanFound
 
 // Where the joined details of an entry stand: 15 where there are no more than `id`, 26 where its offset, the length or they run past.
 pub fn locate_details(offsets: &[u8], details: &[u8], count: usize, id: usize) -> SpanFound
-    ensures { result ≡ found (wordDetailsIn offsets.now details.now count id) }
+    ensures { result ≡ found (word_details_in offsets.now details.now count id) }
 {
     if count <= id {
         return SpanFound::Refused(Refusal {
@@ -147,7 +147,7 @@ pub fn locate_details(offsets: &[u8], details: &[u8], count: usize, id: usize) -
 
 // The joined details of an entry, a part of the details; empty where `locate_details` refuses.
 pub fn word_details<'a>(offsets: &[u8], details: &'a [u8], count: usize, id: usize) -> &'a [u8]
-    ensures { result.now ≡ held details.now (wordDetailsIn offsets.now details.now count id) }
+    ensures { result.now ≡ held details.now (word_details_in offsets.now details.now count id) }
 {
     match locate_details(offsets, details, count, id) {
         SpanFound::At(s) => {

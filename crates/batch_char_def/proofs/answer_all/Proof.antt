@@ -6,51 +6,51 @@ use lib.ListN.{length}
 use Rattle.batch_char_def.proofs.answer_all.Statement.{statement}
 use Rattle.batch_char_def.proofs.answer_all.Tie as tie
 
-abbrev invariant-loop : tie.invariant-loop
-invariant-loop room₀ left₀ room left = length room ≡ length room₀
+abbrev invariant_loop : tie.invariant-loop
+invariant_loop room₀ left₀ room left = length room ≡ length room₀
 
-abbrev decreases-loop : tie.decreases-loop
-decreases-loop room₀ left₀ room left = left
+abbrev decreases_loop : tie.decreases-loop
+decreases_loop room₀ left₀ room left = left
 
-loop-holds : tie.Need-loop-init invariant-loop decreases-loop
-loop-holds c = search rules
+loop_holds : tie.Need-loop-init invariant_loop decreases_loop
+loop_holds c = search rules
 
-next-answer-requires : tie.Need-next-answer-requires invariant-loop decreases-loop
-next-answer-requires c κs = search rules
+next_answer_requires : tie.Need-next-answer-requires invariant_loop decreases_loop
+next_answer_requires c κs = search rules
 
-same_length : tie.Need-same-length invariant-loop decreases-loop
+same_length : tie.Need-same-length invariant_loop decreases_loop
 same_length c = search rules
 
-returns : tie.Need-returns invariant-loop decreases-loop
+returns : tie.Need-returns invariant_loop decreases_loop
 returns c = search rules
 
-sub-left : tie.Need-overflow-sub-left invariant-loop decreases-loop
-sub-left c = search rules
+sub_left : tie.Need-overflow-sub-left invariant_loop decreases_loop
+sub_left c = search rules
 
-loop-less : tie.Need-loop-smaller invariant-loop decreases-loop
-loop-less c = search rules
+loop_less : tie.Need-loop-smaller invariant_loop decreases_loop
+loop_less c = search rules
 
-loop-again : tie.Need-loop-preserved invariant-loop decreases-loop
-loop-again c = search rules
+loop_again : tie.Need-loop-preserved invariant_loop decreases_loop
+loop_again c = search rules
 
-same-length-2 : tie.Need-same-length-2 invariant-loop decreases-loop
-same-length-2 c = search rules
+same_length_2 : tie.Need-same-length-2 invariant_loop decreases_loop
+same_length_2 c = search rules
 
-returns-2 : tie.Need-returns-2 invariant-loop decreases-loop
-returns-2 c = search rules
+returns_2 : tie.Need-returns-2 invariant_loop decreases_loop
+returns_2 c = search rules
 
-pub answer-all-spec : {M : Type 1} → statement M
-answer-all-spec =
+pub answer_all_spec : {M : Type 1} → statement M
+answer_all_spec =
     tie.close
     (tie.spec
-    invariant-loop
-    decreases-loop
-    loop-holds
-    next-answer-requires
+    invariant_loop
+    decreases_loop
+    loop_holds
+    next_answer_requires
     same_length
     returns
-    sub-left
-    loop-less
-    loop-again
-    same-length-2
-    returns-2)
+    sub_left
+    loop_less
+    loop_again
+    same_length_2
+    returns_2)

@@ -4,55 +4,55 @@ use Rattle.std.proofs.Common.{◌-◌, ◌≤◌, length, arith}
 use Rattle.bench_entries.proofs.bench_lookups.Statement.{statement}
 use Rattle.bench_entries.proofs.bench_lookups.Tie as tie
 
-abbrev invariant-loop : tie.invariant-loop
-invariant-loop flat-index flat-pool boundaries row-starts row-lengths row-pool codes sum₀ i₀ sum i = i ≤ length codes
+abbrev invariant_loop : tie.invariant-loop
+invariant_loop flat_index_lem flat_pool_lem boundaries row_starts row_lengths row_pool codes sum₀ i₀ sum i = i ≤ length codes
 
-abbrev decreases-loop : tie.decreases-loop
-decreases-loop flat-index flat-pool boundaries row-starts row-lengths row-pool codes sum₀ i₀ sum i = length codes - i
+abbrev decreases_loop : tie.decreases-loop
+decreases_loop flat_index_lem flat_pool_lem boundaries row_starts row_lengths row_pool codes sum₀ i₀ sum i = length codes - i
 
-loop-holds : tie.Need-loop-init invariant-loop decreases-loop
-loop-holds c = omega arith
+loop_holds : tie.Need-loop-init invariant_loop decreases_loop
+loop_holds c = omega arith
 
-mul-lookup-categories : tie.Need-overflow-mul-lookup-categories invariant-loop decreases-loop
-mul-lookup-categories c = omega arith
+mul_lookup_categories : tie.Need-overflow-mul-lookup-categories invariant_loop decreases_loop
+mul_lookup_categories c = omega arith
 
-shared-slice-read-lookup-categories : tie.Need-shared-slice-read-lookup-categories invariant-loop decreases-loop
-shared-slice-read-lookup-categories c = omega arith
+shared_slice_read_lookup_categories : tie.Need-shared-slice-read-lookup-categories invariant_loop decreases_loop
+shared_slice_read_lookup_categories c = omega arith
 
-lookup-categories-requires : tie.Need-lookup-categories-requires invariant-loop decreases-loop
-lookup-categories-requires c κs = tt
+lookup_categories_requires : tie.Need-lookup-categories-requires invariant_loop decreases_loop
+lookup_categories_requires c κs = tt
 
-weight-requires : tie.Need-weight-requires invariant-loop decreases-loop
-weight-requires c κs = tt
+weight_requires : tie.Need-weight-requires invariant_loop decreases_loop
+weight_requires c κs = tt
 
-wrapping-add-u64-requires : tie.Need-wrapping-add-u64-requires invariant-loop decreases-loop
-wrapping-add-u64-requires c κs = tt
+wrapping_add_u64_requires : tie.Need-wrapping-add-u64-requires invariant_loop decreases_loop
+wrapping_add_u64_requires c κs = tt
 
-add-i : tie.Need-overflow-add-i invariant-loop decreases-loop
-add-i c = omega arith
+add_i : tie.Need-overflow-add-i invariant_loop decreases_loop
+add_i c = omega arith
 
-loop-less : tie.Need-loop-smaller invariant-loop decreases-loop
-loop-less c = omega arith
+loop_less : tie.Need-loop-smaller invariant_loop decreases_loop
+loop_less c = omega arith
 
-loop-again : tie.Need-loop-preserved invariant-loop decreases-loop
-loop-again c = omega arith
+loop_again : tie.Need-loop-preserved invariant_loop decreases_loop
+loop_again c = omega arith
 
-returns : tie.Need-returns invariant-loop decreases-loop
+returns : tie.Need-returns invariant_loop decreases_loop
 returns c = tt
 
-pub bench-lookups-spec : {M : Type 1} → statement M
-bench-lookups-spec =
+pub bench_lookups_spec : {M : Type 1} → statement M
+bench_lookups_spec =
     tie.close
     (tie.spec
-    invariant-loop
-    decreases-loop
-    loop-holds
-    mul-lookup-categories
-    shared-slice-read-lookup-categories
-    lookup-categories-requires
-    weight-requires
-    wrapping-add-u64-requires
-    add-i
-    loop-less
-    loop-again
+    invariant_loop
+    decreases_loop
+    loop_holds
+    mul_lookup_categories
+    shared_slice_read_lookup_categories
+    lookup_categories_requires
+    weight_requires
+    wrapping_add_u64_requires
+    add_i
+    loop_less
+    loop_again
     returns)

@@ -2,156 +2,156 @@
 -- Assumes nothing.
 use Prim.Native.Nat.{◌*◌}
 use native.Mathlib.Omega.{arith}
-use Rattle.paper.specs.Tables.Layout.{Tables, nameSlotSize, definitionSize, rangeSlotSize, referenceSize}
-use Rattle.paper.specs.Tables.Reader.{hasRoom}
-use Rattle.paper.specs.Sizes.{maxNameBytes, maxCategories, maxCategoryLines, maxRanges, maxReferences}
-use Rattle.paper.specs.Computed.ReadText.{readText}
-use Rattle.room.proofs.Five.{lacking, having, part-long}
-use Rattle.room.proofs.Sizes.{roomy, parts-sized}
-use Rattle.room.proofs.Whole.{short-room}
-use Rattle.char_def.proofs.Whole.{whole-formed, long-text, ill-text, lines-parsed}
+use Rattle.paper.specs.Tables.Layout.{Tables, name_slot_size, definition_size, range_slot_size, reference_size}
+use Rattle.paper.specs.Tables.Reader.{has_room}
+use Rattle.paper.specs.Sizes.{max_name_bytes, max_categories, max_category_lines, max_ranges, max_references}
+use Rattle.paper.specs.Computed.ReadText.{read_text}
+use Rattle.room.proofs.Five.{lacking, having, part_long}
+use Rattle.room.proofs.Sizes.{roomy, parts_sized}
+use Rattle.room.proofs.Whole.{short_room}
+use Rattle.char_def.proofs.Whole.{whole_formed, long_text, ill_text, lines_parsed}
 use borrow.Author.Rules.{rules}
 use Rattle.char_def.proofs.parse.Statement.{statement}
 use Rattle.char_def.proofs.parse.Tie as tie
 
-has-room-requires : tie.Need-has-room-requires
-has-room-requires c κs = search rules
+has_room_requires : tie.Need-has-room-requires
+has_room_requires c κs = search rules
 
 returns : tie.Need-returns
 returns c =
     let a = c.before.before.before.before.before.before.before.before.args in
     let t : Tables = record { names = a.names.now; categories = a.categories.now; definitions = a.definitions.now; ranges = a.ranges.now; references = a.references.now } in
-    short-room (readText a.text.now) t (lacking (hasRoom t) (c.before.has_room.ensures) (c.if1.taken))
+    short_room (read_text a.text.now) t (lacking (has_room t) (c.before.has_room.ensures) (c.if1.taken))
 
-returns-2 : tie.Need-returns-2
-returns-2 c =
+returns_2 : tie.Need-returns-2
+returns_2 c =
     let a = c.before.before.before.before.before.before.before.before.before.args in
     let t : Tables = record { names = a.names.now; categories = a.categories.now; definitions = a.definitions.now; ranges = a.ranges.now; references = a.references.now } in
-    long-text a.text.now t (having (hasRoom t) (c.before.before.has_room.ensures) (c.before.if1.left)) (omega arith)
+    long_text a.text.now t (having (has_room t) (c.before.before.has_room.ensures) (c.before.if1.left)) (omega arith)
 
-valid-prefix-requires : tie.Need-valid-prefix-requires
-valid-prefix-requires c κs = search rules
+valid_prefix_requires : tie.Need-valid-prefix-requires
+valid_prefix_requires c κs = search rules
 
-returns-3 : tie.Need-returns-3
-returns-3 c =
+returns_3 : tie.Need-returns-3
+returns_3 c =
     let a = c.before.before.before.before.before.before.before.before.before.before.before.args in
     let t : Tables = record { names = a.names.now; categories = a.categories.now; definitions = a.definitions.now; ranges = a.ranges.now; references = a.references.now } in
-    ill-text a.text.now t (having (hasRoom t) (c.before.before.before.before.has_room.ensures) (c.before.before.before.if1.left)) (omega arith) (c.before.valid-prefix.result) (c.before.valid-prefix.ensures) (omega arith)
+    ill_text a.text.now t (having (has_room t) (c.before.before.before.before.has_room.ensures) (c.before.before.before.if1.left)) (omega arith) (c.before.valid-prefix.result) (c.before.valid-prefix.ensures) (omega arith)
 
-slice-relend-prefix-read-lines : tie.Need-slice-relend-prefix-read-lines
-slice-relend-prefix-read-lines c =
+slice_relend_prefix_read_lines : tie.Need-slice-relend-prefix-read-lines
+slice_relend_prefix_read_lines c =
     let a = c.before.before.before.before.before.before.before.before.before.before.before.args in
     let t : Tables = record { names = a.names.now; categories = a.categories.now; definitions = a.definitions.now; ranges = a.ranges.now; references = a.references.now } in
     (roomy t (c.before.before.before.before.has_room.ensures) (c.before.before.before.if1.left)).first
 
-slice-aggregate-read-lines : tie.Need-slice-aggregate-read-lines
-slice-aggregate-read-lines c =
+slice_aggregate_read_lines : tie.Need-slice-aggregate-read-lines
+slice_aggregate_read_lines c =
     let a = c.before.before.before.before.before.before.before.before.before.before.before.before.args in
     let t : Tables = record { names = a.names.now; categories = a.categories.now; definitions = a.definitions.now; ranges = a.ranges.now; references = a.references.now } in
-    part-long maxNameBytes t.names (roomy t (c.before.before.before.before.before.has_room.ensures) (c.before.before.before.before.if1.left)).first
+    part_long max_name_bytes t.names (roomy t (c.before.before.before.before.before.has_room.ensures) (c.before.before.before.before.if1.left)).first
 
-slice-relend-prefix-read-lines-2 : tie.Need-slice-relend-prefix-read-lines-2
-slice-relend-prefix-read-lines-2 c =
+slice_relend_prefix_read_lines_2 : tie.Need-slice-relend-prefix-read-lines-2
+slice_relend_prefix_read_lines_2 c =
     let a = c.before.before.before.before.before.before.before.before.before.before.before.before.args in
     let t : Tables = record { names = a.names.now; categories = a.categories.now; definitions = a.definitions.now; ranges = a.ranges.now; references = a.references.now } in
     (roomy t (c.before.before.before.before.before.has_room.ensures) (c.before.before.before.before.if1.left)).second
 
-slice-aggregate-read-lines-2 : tie.Need-slice-aggregate-read-lines-2
-slice-aggregate-read-lines-2 c =
+slice_aggregate_read_lines_2 : tie.Need-slice-aggregate-read-lines-2
+slice_aggregate_read_lines_2 c =
     let a = c.before.before.before.before.before.before.before.before.before.before.before.before.before.args in
     let t : Tables = record { names = a.names.now; categories = a.categories.now; definitions = a.definitions.now; ranges = a.ranges.now; references = a.references.now } in
-    part-long (nameSlotSize * maxCategories) t.categories (roomy t (c.before.before.before.before.before.before.has_room.ensures) (c.before.before.before.before.before.if1.left)).second
+    part_long (name_slot_size * max_categories) t.categories (roomy t (c.before.before.before.before.before.before.has_room.ensures) (c.before.before.before.before.before.if1.left)).second
 
-slice-relend-prefix-read-lines-3 : tie.Need-slice-relend-prefix-read-lines-3
-slice-relend-prefix-read-lines-3 c =
+slice_relend_prefix_read_lines_3 : tie.Need-slice-relend-prefix-read-lines-3
+slice_relend_prefix_read_lines_3 c =
     let a = c.before.before.before.before.before.before.before.before.before.before.before.before.before.args in
     let t : Tables = record { names = a.names.now; categories = a.categories.now; definitions = a.definitions.now; ranges = a.ranges.now; references = a.references.now } in
     (roomy t (c.before.before.before.before.before.before.has_room.ensures) (c.before.before.before.before.before.if1.left)).third
 
-slice-aggregate-read-lines-3 : tie.Need-slice-aggregate-read-lines-3
-slice-aggregate-read-lines-3 c =
+slice_aggregate_read_lines_3 : tie.Need-slice-aggregate-read-lines-3
+slice_aggregate_read_lines_3 c =
     let a = c.before.before.before.before.before.before.before.before.before.before.before.before.before.before.args in
     let t : Tables = record { names = a.names.now; categories = a.categories.now; definitions = a.definitions.now; ranges = a.ranges.now; references = a.references.now } in
-    part-long (definitionSize * maxCategoryLines) t.definitions (roomy t (c.before.before.before.before.before.before.before.has_room.ensures) (c.before.before.before.before.before.before.if1.left)).third
+    part_long (definition_size * max_category_lines) t.definitions (roomy t (c.before.before.before.before.before.before.before.has_room.ensures) (c.before.before.before.before.before.before.if1.left)).third
 
-slice-relend-prefix-read-lines-4 : tie.Need-slice-relend-prefix-read-lines-4
-slice-relend-prefix-read-lines-4 c =
+slice_relend_prefix_read_lines_4 : tie.Need-slice-relend-prefix-read-lines-4
+slice_relend_prefix_read_lines_4 c =
     let a = c.before.before.before.before.before.before.before.before.before.before.before.before.before.before.args in
     let t : Tables = record { names = a.names.now; categories = a.categories.now; definitions = a.definitions.now; ranges = a.ranges.now; references = a.references.now } in
     (roomy t (c.before.before.before.before.before.before.before.has_room.ensures) (c.before.before.before.before.before.before.if1.left)).fourth
 
-slice-aggregate-read-lines-4 : tie.Need-slice-aggregate-read-lines-4
-slice-aggregate-read-lines-4 c =
+slice_aggregate_read_lines_4 : tie.Need-slice-aggregate-read-lines-4
+slice_aggregate_read_lines_4 c =
     let a = c.before.before.before.before.before.before.before.before.before.before.before.before.before.before.before.args in
     let t : Tables = record { names = a.names.now; categories = a.categories.now; definitions = a.definitions.now; ranges = a.ranges.now; references = a.references.now } in
-    part-long (rangeSlotSize * maxRanges) t.ranges (roomy t (c.before.before.before.before.before.before.before.before.has_room.ensures) (c.before.before.before.before.before.before.before.if1.left)).fourth
+    part_long (range_slot_size * max_ranges) t.ranges (roomy t (c.before.before.before.before.before.before.before.before.has_room.ensures) (c.before.before.before.before.before.before.before.if1.left)).fourth
 
-slice-relend-prefix-read-lines-5 : tie.Need-slice-relend-prefix-read-lines-5
-slice-relend-prefix-read-lines-5 c =
+slice_relend_prefix_read_lines_5 : tie.Need-slice-relend-prefix-read-lines-5
+slice_relend_prefix_read_lines_5 c =
     let a = c.before.before.before.before.before.before.before.before.before.before.before.before.before.before.before.args in
     let t : Tables = record { names = a.names.now; categories = a.categories.now; definitions = a.definitions.now; ranges = a.ranges.now; references = a.references.now } in
     (roomy t (c.before.before.before.before.before.before.before.before.has_room.ensures) (c.before.before.before.before.before.before.before.if1.left)).fifth
 
-slice-aggregate-read-lines-5 : tie.Need-slice-aggregate-read-lines-5
-slice-aggregate-read-lines-5 c =
+slice_aggregate_read_lines_5 : tie.Need-slice-aggregate-read-lines-5
+slice_aggregate_read_lines_5 c =
     let a = c.before.before.before.before.before.before.before.before.before.before.before.before.before.before.before.before.args in
     let t : Tables = record { names = a.names.now; categories = a.categories.now; definitions = a.definitions.now; ranges = a.ranges.now; references = a.references.now } in
-    part-long (referenceSize * maxReferences) t.references (roomy t (c.before.before.before.before.before.before.before.before.before.has_room.ensures) (c.before.before.before.before.before.before.before.before.if1.left)).fifth
+    part_long (reference_size * max_references) t.references (roomy t (c.before.before.before.before.before.before.before.before.before.has_room.ensures) (c.before.before.before.before.before.before.before.before.if1.left)).fifth
 
-read-lines-requires : tie.Need-read-lines-requires
-read-lines-requires c κs =
+read_lines_requires : tie.Need-read-lines-requires
+read_lines_requires c κs =
     let a = c.before.before.before.before.before.before.before.before.before.before.before.before.before.before.before.before.args in
     let t : Tables = record { names = a.names.now; categories = a.categories.now; definitions = a.definitions.now; ranges = a.ranges.now; references = a.references.now } in
-    (c.before.before.before.before.before.before.before.if2.left, parts-sized t (roomy t (c.before.before.before.before.before.before.before.before.before.has_room.ensures) (c.before.before.before.before.before.before.before.before.if1.left)))
+    (c.before.before.before.before.before.before.before.if2.left, parts_sized t (roomy t (c.before.before.before.before.before.before.before.before.before.has_room.ensures) (c.before.before.before.before.before.before.before.before.if1.left)))
 
 same_length : tie.Need-same-length
 same_length c = search rules
 
-same-length-2 : tie.Need-same-length-2
-same-length-2 c = search rules
+same_length_2 : tie.Need-same-length-2
+same_length_2 c = search rules
 
-same-length-3 : tie.Need-same-length-3
-same-length-3 c = search rules
+same_length_3 : tie.Need-same-length-3
+same_length_3 c = search rules
 
-same-length-4 : tie.Need-same-length-4
-same-length-4 c = search rules
+same_length_4 : tie.Need-same-length-4
+same_length_4 c = search rules
 
-same-length-5 : tie.Need-same-length-5
-same-length-5 c = search rules
+same_length_5 : tie.Need-same-length-5
+same_length_5 c = search rules
 
-returns-4 : tie.Need-returns-4
-returns-4 c =
+returns_4 : tie.Need-returns-4
+returns_4 c =
     let a = c.before.before.before.before.before.before.before.before.before.before.before.before.before.before.before.before.before.before.before.before.before.before.before.before.before.before.before.args in
     let t : Tables = record { names = a.names.now; categories = a.categories.now; definitions = a.definitions.now; ranges = a.ranges.now; references = a.references.now } in
     let l = c.before.before.before.before.before.before.before.before.before.before.read-lines.last in
-    lines-parsed a.text.now t (having (hasRoom t) (c.before.before.before.before.before.before.before.before.before.before.before.before.before.before.before.before.before.before.before.before.has_room.ensures) (c.before.before.before.before.before.before.before.before.before.before.before.before.before.before.before.before.before.before.before.if1.left)) (omega arith)
-    (whole-formed a.text.now (c.before.before.before.before.before.before.before.before.before.before.before.before.before.before.before.before.before.valid-prefix.result) (c.before.before.before.before.before.before.before.before.before.before.before.before.before.before.before.before.before.valid-prefix.ensures) (omega arith))
+    lines_parsed a.text.now t (having (has_room t) (c.before.before.before.before.before.before.before.before.before.before.before.before.before.before.before.before.before.before.before.before.has_room.ensures) (c.before.before.before.before.before.before.before.before.before.before.before.before.before.before.before.before.before.before.before.if1.left)) (omega arith)
+    (whole_formed a.text.now (c.before.before.before.before.before.before.before.before.before.before.before.before.before.before.before.before.before.valid-prefix.result) (c.before.before.before.before.before.before.before.before.before.before.before.before.before.before.before.before.before.valid-prefix.ensures) (omega arith))
     (record { names = l.1.0; categories = l.1.1.0; definitions = l.1.1.1.0; ranges = l.1.1.1.1.0; references = l.1.1.1.1.1.0 })
     _ (c.before.before.before.before.before.before.before.before.before.before.read-lines.ensures)
 
-pub parse-spec : {M : Type 1} → statement M
-parse-spec =
+pub parse_spec : {M : Type 1} → statement M
+parse_spec =
     tie.close
     (tie.spec
-    has-room-requires
+    has_room_requires
     returns
-    returns-2
-    valid-prefix-requires
-    returns-3
-    slice-relend-prefix-read-lines
-    slice-aggregate-read-lines
-    slice-relend-prefix-read-lines-2
-    slice-aggregate-read-lines-2
-    slice-relend-prefix-read-lines-3
-    slice-aggregate-read-lines-3
-    slice-relend-prefix-read-lines-4
-    slice-aggregate-read-lines-4
-    slice-relend-prefix-read-lines-5
-    slice-aggregate-read-lines-5
-    read-lines-requires
+    returns_2
+    valid_prefix_requires
+    returns_3
+    slice_relend_prefix_read_lines
+    slice_aggregate_read_lines
+    slice_relend_prefix_read_lines_2
+    slice_aggregate_read_lines_2
+    slice_relend_prefix_read_lines_3
+    slice_aggregate_read_lines_3
+    slice_relend_prefix_read_lines_4
+    slice_aggregate_read_lines_4
+    slice_relend_prefix_read_lines_5
+    slice_aggregate_read_lines_5
+    read_lines_requires
     same_length
-    same-length-2
-    same-length-3
-    same-length-4
-    same-length-5
-    returns-4)
+    same_length_2
+    same_length_3
+    same_length_4
+    same_length_5
+    returns_4)

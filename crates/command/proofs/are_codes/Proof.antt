@@ -4,51 +4,51 @@ use Rattle.std.proofs.Common.{◌-◌, rules}
 use Rattle.command.proofs.are_codes.Statement.{statement}
 use Rattle.command.proofs.are_codes.Tie as tie
 
-abbrev invariant-loop : tie.invariant-loop
-invariant-loop a i₀ i = Unit {0}
+abbrev invariant_loop : tie.invariant-loop
+invariant_loop a i₀ i = Unit {0}
 
-abbrev decreases-loop : tie.decreases-loop
-decreases-loop a i₀ i = a.end - i
+abbrev decreases_loop : tie.decreases-loop
+decreases_loop a i₀ i = a.end - i
 
-wrapping-add-usize-requires : tie.Need-wrapping-add-usize-requires invariant-loop decreases-loop
-wrapping-add-usize-requires c κs = search rules
+wrapping_add_usize_requires : tie.Need-wrapping-add-usize-requires invariant_loop decreases_loop
+wrapping_add_usize_requires c κs = search rules
 
-loop-holds : tie.Need-loop-init invariant-loop decreases-loop
-loop-holds c = search rules
+loop_holds : tie.Need-loop-init invariant_loop decreases_loop
+loop_holds c = search rules
 
-is-code-requires : tie.Need-is-code-requires invariant-loop decreases-loop
-is-code-requires c κs = search rules
+is_code_requires : tie.Need-is-code-requires invariant_loop decreases_loop
+is_code_requires c κs = search rules
 
-complain-of-code-requires : tie.Need-complain-of-code-requires invariant-loop decreases-loop
-complain-of-code-requires c κs = search rules
+complain_of_code_requires : tie.Need-complain-of-code-requires invariant_loop decreases_loop
+complain_of_code_requires c κs = search rules
 
-returns : tie.Need-returns invariant-loop decreases-loop
+returns : tie.Need-returns invariant_loop decreases_loop
 returns c = search rules
 
-add-i : tie.Need-overflow-add-i invariant-loop decreases-loop
-add-i c = search rules
+add_i : tie.Need-overflow-add-i invariant_loop decreases_loop
+add_i c = search rules
 
-loop-less : tie.Need-loop-smaller invariant-loop decreases-loop
-loop-less c = search rules
+loop_less : tie.Need-loop-smaller invariant_loop decreases_loop
+loop_less c = search rules
 
-loop-again : tie.Need-loop-preserved invariant-loop decreases-loop
-loop-again c = search rules
+loop_again : tie.Need-loop-preserved invariant_loop decreases_loop
+loop_again c = search rules
 
-returns-2 : tie.Need-returns-2 invariant-loop decreases-loop
-returns-2 c = search rules
+returns_2 : tie.Need-returns-2 invariant_loop decreases_loop
+returns_2 c = search rules
 
-pub are-codes-spec : {M : Type 1} → statement M
-are-codes-spec =
+pub are_codes_spec : {M : Type 1} → statement M
+are_codes_spec =
     tie.close
     (tie.spec
-    invariant-loop
-    decreases-loop
-    wrapping-add-usize-requires
-    loop-holds
-    is-code-requires
-    complain-of-code-requires
+    invariant_loop
+    decreases_loop
+    wrapping_add_usize_requires
+    loop_holds
+    is_code_requires
+    complain_of_code_requires
     returns
-    add-i
-    loop-less
-    loop-again
-    returns-2)
+    add_i
+    loop_less
+    loop_again
+    returns_2)

@@ -4,51 +4,51 @@ use Rattle.std.proofs.Common.{◌-◌, rules}
 use Rattle.command.proofs.command_of.Statement.{statement}
 use Rattle.command.proofs.command_of.Tie as tie
 
-abbrev invariant-loop : tie.invariant-loop
-invariant-loop word command₀ command = Unit {0}
+abbrev invariant_loop : tie.invariant-loop
+invariant_loop word command₀ command = Unit {0}
 
-abbrev decreases-loop : tie.decreases-loop
-decreases-loop word command₀ command = 7 - command
+abbrev decreases_loop : tie.decreases-loop
+decreases_loop word command₀ command = 7 - command
 
-loop-holds : tie.Need-loop-init invariant-loop decreases-loop
-loop-holds c = search rules
+loop_holds : tie.Need-loop-init invariant_loop decreases_loop
+loop_holds c = search rules
 
-command-line-requires : tie.Need-command-line-requires invariant-loop decreases-loop
-command-line-requires c κs = search rules
+command_line_requires : tie.Need-command-line-requires invariant_loop decreases_loop
+command_line_requires c κs = search rules
 
-slice-aggregate-begins : tie.Need-slice-aggregate-begins invariant-loop decreases-loop
-slice-aggregate-begins c = search rules
+slice_aggregate_begins : tie.Need-slice-aggregate-begins invariant_loop decreases_loop
+slice_aggregate_begins c = search rules
 
-begins-requires : tie.Need-begins-requires invariant-loop decreases-loop
-begins-requires c κs = search rules
+begins_requires : tie.Need-begins-requires invariant_loop decreases_loop
+begins_requires c κs = search rules
 
-returns : tie.Need-returns invariant-loop decreases-loop
+returns : tie.Need-returns invariant_loop decreases_loop
 returns c = search rules
 
-add-command : tie.Need-overflow-add-command invariant-loop decreases-loop
-add-command c = search rules
+add_command : tie.Need-overflow-add-command invariant_loop decreases_loop
+add_command c = search rules
 
-loop-less : tie.Need-loop-smaller invariant-loop decreases-loop
-loop-less c = search rules
+loop_less : tie.Need-loop-smaller invariant_loop decreases_loop
+loop_less c = search rules
 
-loop-again : tie.Need-loop-preserved invariant-loop decreases-loop
-loop-again c = search rules
+loop_again : tie.Need-loop-preserved invariant_loop decreases_loop
+loop_again c = search rules
 
-returns-2 : tie.Need-returns-2 invariant-loop decreases-loop
-returns-2 c = search rules
+returns_2 : tie.Need-returns-2 invariant_loop decreases_loop
+returns_2 c = search rules
 
-pub command-of-spec : {M : Type 1} → statement M
-command-of-spec =
+pub command_of_spec : {M : Type 1} → statement M
+command_of_spec =
     tie.close
     (tie.spec
-    invariant-loop
-    decreases-loop
-    loop-holds
-    command-line-requires
-    slice-aggregate-begins
-    begins-requires
+    invariant_loop
+    decreases_loop
+    loop_holds
+    command_line_requires
+    slice_aggregate_begins
+    begins_requires
     returns
-    add-command
-    loop-less
-    loop-again
-    returns-2)
+    add_command
+    loop_less
+    loop_again
+    returns_2)

@@ -1,56 +1,56 @@
 -- `exported::give` meets its contract: by the case of the outcome. Assumes nothing.
 use native.Mathlib.Omega.{arith}
 use mathlib.Core.Path.{refl}
-use Rattle.exported.proofs.Given.{gives-counts, gives-refusal}
+use Rattle.exported.proofs.Given.{gives_counts, gives_refusal}
 use borrow.Author.Rules.{rules}
 use Rattle.exported.proofs.give.Statement.{statement}
 use Rattle.exported.proofs.give.Tie as tie
 
-enum-known-outcome : tie.Need-enum-known-outcome
-enum-known-outcome c = search rules
+enum_known_outcome : tie.Need-enum-known-outcome
+enum_known_outcome c = search rules
 
-put-counts-requires : tie.Need-put-counts-requires
-put-counts-requires c κs = (c.before.before.before.before.before.requires.0, rw (c.before.before.outcome.given.1) at (c.before.before.before.before.before.requires.1))
+put_counts_requires : tie.Need-put-counts-requires
+put_counts_requires c κs = (c.before.before.before.before.before.requires.0, rw (c.before.before.outcome.given.1) at (c.before.before.before.before.before.requires.1))
 
-enum-known-outcome-2 : tie.Need-enum-known-outcome-2
-enum-known-outcome-2 c = search rules
+enum_known_outcome_2 : tie.Need-enum-known-outcome-2
+enum_known_outcome_2 c = search rules
 
-leave-counts-requires : tie.Need-leave-counts-requires
-leave-counts-requires c κs = search rules
+leave_counts_requires : tie.Need-leave-counts-requires
+leave_counts_requires c κs = search rules
 
-cast-result : tie.Need-overflow-cast-result
-cast-result c = search rules
+cast_result : tie.Need-overflow-cast-result
+cast_result c = search rules
 
-mul-result : tie.Need-overflow-mul-result
-mul-result c = let h = rw (c.before.before.before.before.before.before.outcome2.given.1) at (c.before.before.before.before.before.before.before.before.before.requires.1) in omega arith
+mul_result : tie.Need-overflow-mul-result
+mul_result c = let h = rw (c.before.before.before.before.before.before.outcome2.given.1) at (c.before.before.before.before.before.before.before.before.before.requires.1) in omega arith
 
-add-result : tie.Need-overflow-add-result
-add-result c = let h = rw (c.before.before.before.before.before.before.outcome2.given.1) at (c.before.before.before.before.before.before.before.before.before.requires.1) in omega arith
+add_result : tie.Need-overflow-add-result
+add_result c = let h = rw (c.before.before.before.before.before.before.outcome2.given.1) at (c.before.before.before.before.before.before.before.before.before.requires.1) in omega arith
 
 same_length : tie.Need-same-length
 same_length c = search rules
 
 returns : tie.Need-returns
-returns c = gives-counts _ _ _ _ (c.before.before.before.before.before.outcome.given.1) (c.before.before.put-counts.ensures)
+returns c = gives_counts _ _ _ _ (c.before.before.before.before.before.outcome.given.1) (c.before.before.put-counts.ensures)
 
-same-length-2 : tie.Need-same-length-2
-same-length-2 c = search rules
+same_length_2 : tie.Need-same-length-2
+same_length_2 c = search rules
 
-returns-2 : tie.Need-returns-2
-returns-2 c = gives-refusal _ _ _ _ _ (c.before.before.before.before.before.before.outcome2.given.1) (c.before.before.before.leave-counts.ensures) refl
+returns_2 : tie.Need-returns-2
+returns_2 c = gives_refusal _ _ _ _ _ (c.before.before.before.before.before.before.outcome2.given.1) (c.before.before.before.leave-counts.ensures) refl
 
 pub give_spec : {M : Type 1} → statement M
 give_spec =
     tie.close
     (tie.spec
-    enum-known-outcome
-    put-counts-requires
-    enum-known-outcome-2
-    leave-counts-requires
-    cast-result
-    mul-result
-    add-result
+    enum_known_outcome
+    put_counts_requires
+    enum_known_outcome_2
+    leave_counts_requires
+    cast_result
+    mul_result
+    add_result
     same_length
     returns
-    same-length-2
-    returns-2)
+    same_length_2
+    returns_2)

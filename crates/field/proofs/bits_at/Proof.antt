@@ -3,32 +3,32 @@ use borrow.Author.Rules.{rules}
 use native.Mathlib.Omega.{arith}
 use mathlib.Core.Path.{ap, sym, ◌∙◌}
 use Prim.Native.Nat.{ℕ, ◌-◌, ◌/◌, ◌%◌, ◌^◌}
-use Rattle.field.proofs.Window.{window, mask_is, masked, masked-lt}
+use Rattle.field.proofs.Window.{window, mask_is, masked, masked_lt}
 use Rattle.field.proofs.bits_at.Statement.{statement}
 use Rattle.field.proofs.bits_at.Tie as tie
 
-five-requires : tie.Need-five-requires
-five-requires c κs = search rules
+five_requires : tie.Need-five-requires
+five_requires c κs = search rules
 
-sub-shift : tie.Need-overflow-sub-shift
-sub-shift c = search rules
+sub_shift : tie.Need-overflow-sub-shift
+sub_shift c = search rules
 
-sub-shift-2 : tie.Need-overflow-sub-shift-2
-sub-shift-2 c = search rules
+sub_shift_2 : tie.Need-overflow-sub-shift-2
+sub_shift_2 c = search rules
 
-shr-v : tie.Need-overflow-shr-v
-shr-v c = search rules
+shr_v : tie.Need-overflow-shr-v
+shr_v c = search rules
 
-shl-v : tie.Need-overflow-shl-v
-shl-v c = search rules
+shl_v : tie.Need-overflow-shl-v
+shl_v c = search rules
 
-sub-v : tie.Need-overflow-sub-v
-sub-v c = mask_is _ (omega arith)
+sub_v : tie.Need-overflow-sub-v
+sub_v c = mask_is _ (omega arith)
 
-cast-result : tie.Need-overflow-cast-result
-cast-result c =
+cast_result : tie.Need-overflow-cast-result
+cast_result c =
     let a = c.before.before.args in
-    record { fits = masked-lt (c.five.result / 2 ^ (40 - a.at % 8 - a.width)) a.width (omega arith) }
+    record { fits = masked_lt (c.five.result / 2 ^ (40 - a.at % 8 - a.width)) a.width (omega arith) }
 
 returns : tie.Need-returns
 returns c =
@@ -37,6 +37,6 @@ returns c =
     ∙ ap (λ (x : ℕ). x / 2 ^ (40 - a.at % 8 - a.width) % 2 ^ a.width) c.five.ensures
     ∙ sym (window a.pack.now a.at 5 a.width (λ k. omega (arith, c.before.shared-slice-known.given k)) (omega arith))
 
-pub bits-at-spec : {M : Type 1} → statement M
-bits-at-spec =
-    tie.close (tie.spec five-requires sub-shift sub-shift-2 shr-v shl-v sub-v cast-result returns)
+pub bits_at_spec : {M : Type 1} → statement M
+bits_at_spec =
+    tie.close (tie.spec five_requires sub_shift sub_shift_2 shr_v shl_v sub_v cast_result returns)

@@ -5,17 +5,17 @@ use lib.ListN.{get_or-eq_default}
 use Rattle.field.proofs.byte_or_0.Statement.{statement}
 use Rattle.field.proofs.byte_or_0.Tie as tie
 
-shared-slice-read-wide : tie.Need-shared-slice-read-wide
-shared-slice-read-wide c = search rules
+shared_slice_read_wide : tie.Need-shared-slice-read-wide
+shared_slice_read_wide c = search rules
 
-wide-requires : tie.Need-wide-requires
-wide-requires c κs = search rules
+wide_requires : tie.Need-wide-requires
+wide_requires c κs = search rules
 
 returns : tie.Need-returns
 returns c = search rules
 
-returns-2 : tie.Need-returns-2
-returns-2 c = (sym (get_or-eq_default c.before.before.args.s.now 0 c.if1.false), search rules)
+returns_2 : tie.Need-returns-2
+returns_2 c = (sym (get_or-eq_default c.before.before.args.s.now 0 c.if1.false), search rules)
 
-pub byte-or-0-spec : {M : Type 1} → statement M
-byte-or-0-spec = tie.close (tie.spec shared-slice-read-wide wide-requires returns returns-2)
+pub byte_or_0_spec : {M : Type 1} → statement M
+byte_or_0_spec = tie.close (tie.spec shared_slice_read_wide wide_requires returns returns_2)

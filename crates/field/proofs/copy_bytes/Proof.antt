@@ -2,63 +2,63 @@
 use borrow.Author.Rules.{rules}
 use native.Mathlib.Omega.{arith}
 use Prim.Native.Nat.{◌-◌}
-use Rattle.field.proofs.Copy.{Copying, none-copied, one-copied, all-copied}
+use Rattle.field.proofs.Copy.{Copying, none_copied, one_copied, all_copied}
 use Rattle.field.proofs.copy_bytes.Statement.{statement}
 use Rattle.field.proofs.copy_bytes.Tie as tie
 
-abbrev invariant-loop : tie.invariant-loop
-invariant-loop pack at n room₀ to i₀ room i = Copying pack at n to room₀ room i
+abbrev invariant_loop : tie.invariant-loop
+invariant_loop pack at n room₀ to i₀ room i = Copying pack at n to room₀ room i
 
-abbrev decreases-loop : tie.decreases-loop
-decreases-loop pack at n room₀ to i₀ room i = n - i
+abbrev decreases_loop : tie.decreases-loop
+decreases_loop pack at n room₀ to i₀ room i = n - i
 
-loop-holds : tie.Need-loop-init invariant-loop decreases-loop
-loop-holds c = none-copied _ _ _ _ _
+loop_holds : tie.Need-loop-init invariant_loop decreases_loop
+loop_holds c = none_copied _ _ _ _ _
 
-mul-byte-at : tie.Need-overflow-mul-byte-at invariant-loop decreases-loop
-mul-byte-at c = omega arith
+mul_byte_at : tie.Need-overflow-mul-byte-at invariant_loop decreases_loop
+mul_byte_at c = omega arith
 
-add-byte-at : tie.Need-overflow-add-byte-at invariant-loop decreases-loop
-add-byte-at c = omega arith
+add_byte_at : tie.Need-overflow-add-byte-at invariant_loop decreases_loop
+add_byte_at c = omega arith
 
-byte-at-requires : tie.Need-byte-at-requires invariant-loop decreases-loop
-byte-at-requires c κs = search rules
+byte_at_requires : tie.Need-byte-at-requires invariant_loop decreases_loop
+byte_at_requires c κs = search rules
 
-add-room : tie.Need-overflow-add-room invariant-loop decreases-loop
-add-room c = omega arith
+add_room : tie.Need-overflow-add-room invariant_loop decreases_loop
+add_room c = omega arith
 
-slice-write-room : tie.Need-slice-write-room invariant-loop decreases-loop
-slice-write-room c = omega (arith, c.before.before.loop.invariant.long)
+slice_write_room : tie.Need-slice-write-room invariant_loop decreases_loop
+slice_write_room c = omega (arith, c.before.before.loop.invariant.long)
 
-add-i : tie.Need-overflow-add-i invariant-loop decreases-loop
-add-i c = omega arith
+add_i : tie.Need-overflow-add-i invariant_loop decreases_loop
+add_i c = omega arith
 
-loop-less : tie.Need-loop-smaller invariant-loop decreases-loop
-loop-less c = omega arith
+loop_less : tie.Need-loop-smaller invariant_loop decreases_loop
+loop_less c = omega arith
 
-loop-again : tie.Need-loop-preserved invariant-loop decreases-loop
-loop-again c = one-copied _ _ _ _ _ _ _ _ c.before.before.loop.invariant c.before.loop-test.true c.byte_at.ensures
+loop_again : tie.Need-loop-preserved invariant_loop decreases_loop
+loop_again c = one_copied _ _ _ _ _ _ _ _ c.before.before.loop.invariant c.before.loop-test.true c.byte_at.ensures
 
-same_length : tie.Need-same-length invariant-loop decreases-loop
+same_length : tie.Need-same-length invariant_loop decreases_loop
 same_length c = c.before.loop.invariant.long
 
-returns : tie.Need-returns invariant-loop decreases-loop
-returns c = all-copied _ _ _ _ _ _ _ c.before.loop.invariant c.loop-test.false (omega arith)
+returns : tie.Need-returns invariant_loop decreases_loop
+returns c = all_copied _ _ _ _ _ _ _ c.before.loop.invariant c.loop-test.false (omega arith)
 
-pub copy-bytes-spec : {M : Type 1} → statement M
-copy-bytes-spec =
+pub copy_bytes_spec : {M : Type 1} → statement M
+copy_bytes_spec =
     tie.close
     (tie.spec
-    invariant-loop
-    decreases-loop
-    loop-holds
-    mul-byte-at
-    add-byte-at
-    byte-at-requires
-    add-room
-    slice-write-room
-    add-i
-    loop-less
-    loop-again
+    invariant_loop
+    decreases_loop
+    loop_holds
+    mul_byte_at
+    add_byte_at
+    byte_at_requires
+    add_room
+    slice_write_room
+    add_i
+    loop_less
+    loop_again
     same_length
     returns)

@@ -4,110 +4,110 @@ use Prim.Native.Nat.{◌≤◌, ◌-◌}
 use native.Mathlib.Omega.{arith}
 use mathlib.Core.Path.{◌≡◌, refl, ◌∙◌}
 use lib.ListN.{length}
-use Rattle.paper.specs.Sizes.{maxRowPlaces}
-use Rattle.window.specs.Near.{noBoundary, InWindow}
-use Rattle.cover.specs.Slots.{slotsGot}
-use Rattle.cover.specs.Fallback.{fallbackRow}
-use Rattle.fill_rows.specs.Walked.{boundariesOf, row_of}
-use Rattle.fill_flat.proofs.Fills.{Filling, walk_start, next-rises, row_fits, walk_turn, walk-done}
+use Rattle.paper.specs.Sizes.{max_row_places}
+use Rattle.window.specs.Near.{no_boundary, InWindow}
+use Rattle.cover.specs.Slots.{slots_got}
+use Rattle.cover.specs.Fallback.{fallback_row}
+use Rattle.fill_rows.specs.Walked.{boundaries_of, row_of}
+use Rattle.fill_flat.proofs.Fills.{Filling, walk_start, next_rises, row_fits, walk_turn, walk_done}
 use Rattle.fill_flat.proofs.fill_flat.Statement.{statement}
 use Rattle.fill_flat.proofs.fill_flat.Tie as tie
 
-abbrev invariant-loop : tie.invariant-loop
-invariant-loop ranges references count fallback seen₀ near₀ index₀ pool₀ w₀ rows₀ at₀ seen near index pool w rows at =
-    (Filling (row_of (fallbackRow fallback) (slotsGot 0 count ranges) references) (boundariesOf (slotsGot 0 count ranges)) seen₀
+abbrev invariant_loop : tie.invariant-loop
+invariant_loop ranges references count fallback seen₀ near₀ index₀ pool₀ w₀ rows₀ at₀ seen near index pool w rows at =
+    (Filling (row_of (fallback_row fallback) (slots_got 0 count ranges) references) (boundaries_of (slots_got 0 count ranges)) seen₀
     (record { index = index₀; pool = pool₀ }) seen (record { index = index; pool = pool }) w.at rows at
-    × (at ≤ maxRowPlaces))
+    × (at ≤ max_row_places))
     × (InWindow ranges near count w × (length near ≡ length near₀))
 
-abbrev decreases-loop : tie.decreases-loop
-decreases-loop ranges references count fallback seen₀ near₀ index₀ pool₀ w₀ rows₀ at₀ seen near index pool w rows at = noBoundary - w.at
+abbrev decreases_loop : tie.decreases-loop
+decreases_loop ranges references count fallback seen₀ near₀ index₀ pool₀ w₀ rows₀ at₀ seen near index pool w rows at = no_boundary - w.at
 
-open-window-requires : tie.Need-open-window-requires invariant-loop decreases-loop
-open-window-requires c κs = (c.before.before.before.before.before.before.before.requires.0.readable.few, omega arith)
+open_window_requires : tie.Need-open-window-requires invariant_loop decreases_loop
+open_window_requires c κs = (c.before.before.before.before.before.before.before.requires.0.readable.few, omega arith)
 
-loop-holds : tie.Need-loop-init invariant-loop decreases-loop
-loop-holds c = ((walk_start _ _ _ _ c.before.before.before.before.before.before.before.before.before.before.requires.0 _ _ _ c.before.before.open-window.ensures.0 c.before.before.before.before.before.before.before.before.before.before.requires.1.0, omega arith), (c.before.before.open-window.ensures.1, refl))
+loop_holds : tie.Need-loop-init invariant_loop decreases_loop
+loop_holds c = ((walk_start _ _ _ _ c.before.before.before.before.before.before.before.before.before.before.requires.0 _ _ _ c.before.before.open-window.ensures.0 c.before.before.before.before.before.before.before.before.before.before.requires.1.0, omega arith), (c.before.before.open-window.ensures.1, refl))
 
-add-covering-near : tie.Need-overflow-add-covering-near invariant-loop decreases-loop
-add-covering-near c = omega (arith, c.before.before.before.before.loop.invariant.0.0.few, c.before.before.before.before.loop.invariant.0.0.most)
+add_covering_near : tie.Need-overflow-add-covering-near invariant_loop decreases_loop
+add_covering_near c = omega (arith, c.before.before.before.before.loop.invariant.0.0.few, c.before.before.before.before.loop.invariant.0.0.most)
 
-covering-near-requires : tie.Need-covering-near-requires invariant-loop decreases-loop
-covering-near-requires c κs = ((c.before.before.before.before.before.before.before.before.before.before.before.before.before.before.before.before.requires.0.readable.few, (omega (arith, c.before.before.before.before.before.loop.invariant.0.1), omega (arith, c.before.before.before.before.before.loop.invariant.0.0.room))), c.before.before.before.before.before.loop.invariant.1.0)
+covering_near_requires : tie.Need-covering-near-requires invariant_loop decreases_loop
+covering_near_requires c κs = ((c.before.before.before.before.before.before.before.before.before.before.before.before.before.before.before.before.requires.0.readable.few, (omega (arith, c.before.before.before.before.before.loop.invariant.0.1), omega (arith, c.before.before.before.before.before.loop.invariant.0.0.room))), c.before.before.before.before.before.loop.invariant.1.0)
 
-step-on-requires : tie.Need-step-on-requires invariant-loop decreases-loop
-step-on-requires c κs = ((c.before.before.before.before.before.before.before.before.before.before.before.before.before.before.before.before.before.before.before.before.before.before.requires.0.readable.few, omega (arith, c.before.before.before.before.before.before.before.before.before.if1.true)), c.before.before.before.before.before.before.before.before.before.before.before.loop.invariant.1.0)
+step_on_requires : tie.Need-step-on-requires invariant_loop decreases_loop
+step_on_requires c κs = ((c.before.before.before.before.before.before.before.before.before.before.before.before.before.before.before.before.before.before.before.before.before.before.requires.0.readable.few, omega (arith, c.before.before.before.before.before.before.before.before.before.if1.true)), c.before.before.before.before.before.before.before.before.before.before.before.loop.invariant.1.0)
 
-sub-entry-of : tie.Need-overflow-sub-entry-of invariant-loop decreases-loop
-sub-entry-of c =
+sub_entry_of : tie.Need-overflow-sub-entry-of invariant_loop decreases_loop
+sub_entry_of c =
     let f = row_fits _ _ _ _ c.before.before.before.before.before.before.before.before.before.before.before.before.before.before.before.before.before.before.before.before.before.before.before.before.before.requires.0 _ _ _ _ _ _ _ c.before.before.before.before.before.before.before.before.before.before.before.before.before.before.loop.invariant.0.0 c.before.before.before.before.before.before.before.before.before.before.before.before.if1.true _ _ _ c.before.before.before.before.before.before.before.before.covering-near.ensures _ c.before.before.step-on.ensures.0 in
     omega (arith, f)
 
-entry-of-requires : tie.Need-entry-of-requires invariant-loop decreases-loop
-entry-of-requires c κs =
+entry_of_requires : tie.Need-entry-of-requires invariant_loop decreases_loop
+entry_of_requires c κs =
     let f = row_fits _ _ _ _ c.before.before.before.before.before.before.before.before.before.before.before.before.before.before.before.before.before.before.before.before.before.before.before.before.before.requires.0 _ _ _ _ _ _ _ c.before.before.before.before.before.before.before.before.before.before.before.before.before.before.loop.invariant.0.0 c.before.before.before.before.before.before.before.before.before.before.before.before.if1.true _ _ _ c.before.before.before.before.before.before.before.before.covering-near.ensures _ c.before.before.step-on.ensures.0 in
     omega (arith, f)
 
-cast-spread : tie.Need-overflow-cast-spread invariant-loop decreases-loop
-cast-spread c = omega arith
+cast_spread : tie.Need-overflow-cast-spread invariant_loop decreases_loop
+cast_spread c = omega arith
 
-cast-spread-2 : tie.Need-overflow-cast-spread-2 invariant-loop decreases-loop
-cast-spread-2 c = omega arith
+cast_spread_2 : tie.Need-overflow-cast-spread-2 invariant_loop decreases_loop
+cast_spread_2 c = omega arith
 
-spread-requires : tie.Need-spread-requires invariant-loop decreases-loop
-spread-requires c κs = tt
+spread_requires : tie.Need-spread-requires invariant_loop decreases_loop
+spread_requires c κs = tt
 
-add-rows : tie.Need-overflow-add-rows invariant-loop decreases-loop
-add-rows c = omega (arith, c.before.before.before.before.before.before.before.before.before.before.before.before.before.before.before.before.before.before.before.before.before.loop.invariant.0.0.few, c.before.before.before.before.before.before.before.before.before.before.before.before.before.before.before.before.before.before.before.before.before.loop.invariant.0.0.most)
+add_rows : tie.Need-overflow-add-rows invariant_loop decreases_loop
+add_rows c = omega (arith, c.before.before.before.before.before.before.before.before.before.before.before.before.before.before.before.before.before.before.before.before.before.loop.invariant.0.0.few, c.before.before.before.before.before.before.before.before.before.before.before.before.before.before.before.before.before.before.before.before.before.loop.invariant.0.0.most)
 
-loop-less : tie.Need-loop-smaller invariant-loop decreases-loop
-loop-less c =
-    omega (arith, next-rises _ _ _ _ c.before.before.before.before.before.before.before.before.before.before.before.before.before.before.before.before.before.before.before.before.before.before.before.before.before.before.before.before.before.before.before.before.requires.0 _ _ _ _ _ _ _ c.before.before.before.before.before.before.before.before.before.before.before.before.before.before.before.before.before.before.before.before.before.loop.invariant.0.0 c.before.before.before.before.before.before.before.before.before.before.before.before.before.before.before.before.before.before.before.if1.true _ c.before.before.before.before.before.before.before.before.before.step-on.ensures.0, c.before.before.before.before.before.before.before.before.before.before.before.before.before.before.before.before.before.before.before.if1.true)
+loop_less : tie.Need-loop-smaller invariant_loop decreases_loop
+loop_less c =
+    omega (arith, next_rises _ _ _ _ c.before.before.before.before.before.before.before.before.before.before.before.before.before.before.before.before.before.before.before.before.before.before.before.before.before.before.before.before.before.before.before.before.requires.0 _ _ _ _ _ _ _ c.before.before.before.before.before.before.before.before.before.before.before.before.before.before.before.before.before.before.before.before.before.loop.invariant.0.0 c.before.before.before.before.before.before.before.before.before.before.before.before.before.before.before.before.before.before.before.if1.true _ c.before.before.before.before.before.before.before.before.before.step-on.ensures.0, c.before.before.before.before.before.before.before.before.before.before.before.before.before.before.before.before.before.before.before.if1.true)
 
-loop-again : tie.Need-loop-preserved invariant-loop decreases-loop
-loop-again c =
+loop_again : tie.Need-loop-preserved invariant_loop decreases_loop
+loop_again c =
     let r = c.before.before.before.before.before.before.before.before.before.before.before.before.before.before.before.covering-near.ensures in
     let n = c.before.before.before.before.before.before.before.before.before.step-on.ensures.0 in (
       (walk_turn _ _ _ _ c.before.before.before.before.before.before.before.before.before.before.before.before.before.before.before.before.before.before.before.before.before.before.before.before.before.before.before.before.before.before.before.before.requires.0 _ _ _ _ _ _ _ c.before.before.before.before.before.before.before.before.before.before.before.before.before.before.before.before.before.before.before.before.before.loop.invariant.0.0 c.before.before.before.before.before.before.before.before.before.before.before.before.before.before.before.before.before.before.before.if1.true _ _ _ r _ n _ _ c.before.before.before.before.before.before.entry_of.ensures c.before.before.spread.ensures, (row_fits _ _ _ _ c.before.before.before.before.before.before.before.before.before.before.before.before.before.before.before.before.before.before.before.before.before.before.before.before.before.before.before.before.before.before.before.before.requires.0 _ _ _ _ _ _ _ c.before.before.before.before.before.before.before.before.before.before.before.before.before.before.before.before.before.before.before.before.before.loop.invariant.0.0 c.before.before.before.before.before.before.before.before.before.before.before.before.before.before.before.before.before.before.before.if1.true _ _ _ r _ n).1),
       (c.before.before.before.before.before.before.before.before.before.step-on.ensures.1, c.before.before.before.before.before.before.before.before.near2.given ∙ c.before.before.before.before.before.before.before.before.before.before.before.before.before.before.before.before.before.before.before.before.before.loop.invariant.1.1),
     )
 
-same_length : tie.Need-same-length invariant-loop decreases-loop
-same_length c = c.before.before.loop.invariant.0.0.long-seen
+same_length : tie.Need-same-length invariant_loop decreases_loop
+same_length c = c.before.before.loop.invariant.0.0.long_seen
 
-same-length-2 : tie.Need-same-length-2 invariant-loop decreases-loop
-same-length-2 c = c.before.before.loop.invariant.1.1 ∙ c.before.before.before.before.near.given
+same_length_2 : tie.Need-same-length-2 invariant_loop decreases_loop
+same_length_2 c = c.before.before.loop.invariant.1.1 ∙ c.before.before.before.before.near.given
 
-same-length-3 : tie.Need-same-length-3 invariant-loop decreases-loop
-same-length-3 c = c.before.before.loop.invariant.0.0.long-index
+same_length_3 : tie.Need-same-length-3 invariant_loop decreases_loop
+same_length_3 c = c.before.before.loop.invariant.0.0.long_index
 
-same-length-4 : tie.Need-same-length-4 invariant-loop decreases-loop
-same-length-4 c = c.before.before.loop.invariant.0.0.long-pool
+same_length_4 : tie.Need-same-length-4 invariant_loop decreases_loop
+same_length_4 c = c.before.before.loop.invariant.0.0.long_pool
 
-returns : tie.Need-returns invariant-loop decreases-loop
-returns c = walk-done _ _ _ _ c.before.before.before.before.before.before.before.before.before.before.before.before.before.requires.0 _ _ _ _ _ _ _ c.before.before.loop.invariant.0.0 (omega (arith, c.if1.false)) c.before.before.before.before.before.before.before.before.before.before.before.before.before.requires.1.1
+returns : tie.Need-returns invariant_loop decreases_loop
+returns c = walk_done _ _ _ _ c.before.before.before.before.before.before.before.before.before.before.before.before.before.requires.0 _ _ _ _ _ _ _ c.before.before.loop.invariant.0.0 (omega (arith, c.if1.false)) c.before.before.before.before.before.before.before.before.before.before.before.before.before.requires.1.1
 
-pub fill-flat-spec : {M : Type 1} → statement M
-fill-flat-spec =
+pub fill_flat_spec : {M : Type 1} → statement M
+fill_flat_spec =
     tie.close
     (tie.spec
-    invariant-loop
-    decreases-loop
-    open-window-requires
-    loop-holds
-    add-covering-near
-    covering-near-requires
-    step-on-requires
-    sub-entry-of
-    entry-of-requires
-    cast-spread
-    cast-spread-2
-    spread-requires
-    add-rows
-    loop-less
-    loop-again
+    invariant_loop
+    decreases_loop
+    open_window_requires
+    loop_holds
+    add_covering_near
+    covering_near_requires
+    step_on_requires
+    sub_entry_of
+    entry_of_requires
+    cast_spread
+    cast_spread_2
+    spread_requires
+    add_rows
+    loop_less
+    loop_again
     same_length
-    same-length-2
-    same-length-3
-    same-length-4
+    same_length_2
+    same_length_3
+    same_length_4
     returns)

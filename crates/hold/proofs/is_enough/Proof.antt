@@ -1,80 +1,80 @@
 -- `hold::is_enough` meets its contract: each comparison alone refuses. Assumes nothing.
 use native.Mathlib.Omega.{arith}
-use Rattle.hold.proofs.Enough.{not-enough, is-enough}
+use Rattle.hold.proofs.Enough.{not_enough, is_enough}
 use borrow.Author.Rules.{rules}
 use Rattle.hold.proofs.is_enough.Statement.{statement}
 use Rattle.hold.proofs.is_enough.Tie as tie
 
 returns : tie.Need-returns
-returns c = not-enough _ _ _ _ _ _ (λ h. omega arith)
+returns c = not_enough _ _ _ _ _ _ (λ h. omega arith)
 
-returns-2 : tie.Need-returns-2
-returns-2 c = not-enough _ _ _ _ _ _ (λ h. omega arith)
+returns_2 : tie.Need-returns-2
+returns_2 c = not_enough _ _ _ _ _ _ (λ h. omega arith)
 
-returns-3 : tie.Need-returns-3
-returns-3 c = not-enough _ _ _ _ _ _ (λ h. omega arith)
+returns_3 : tie.Need-returns-3
+returns_3 c = not_enough _ _ _ _ _ _ (λ h. omega arith)
 
-returns-4 : tie.Need-returns-4
-returns-4 c = not-enough _ _ _ _ _ _ (λ h. omega arith)
+returns_4 : tie.Need-returns-4
+returns_4 c = not_enough _ _ _ _ _ _ (λ h. omega arith)
 
-returns-5 : tie.Need-returns-5
-returns-5 c = not-enough _ _ _ _ _ _ (λ h. omega arith)
+returns_5 : tie.Need-returns-5
+returns_5 c = not_enough _ _ _ _ _ _ (λ h. omega arith)
 
-returns-6 : tie.Need-returns-6
-returns-6 c = not-enough _ _ _ _ _ _ (λ h. omega arith)
+returns_6 : tie.Need-returns-6
+returns_6 c = not_enough _ _ _ _ _ _ (λ h. omega arith)
 
-mul-if7 : tie.Need-overflow-mul-if7
-mul-if7 c = search rules
+mul_if7 : tie.Need-overflow-mul-if7
+mul_if7 c = search rules
 
-returns-7 : tie.Need-returns-7
-returns-7 c = not-enough _ _ _ _ _ _ (λ h. omega arith)
+returns_7 : tie.Need-returns-7
+returns_7 c = not_enough _ _ _ _ _ _ (λ h. omega arith)
 
-mul-if8 : tie.Need-overflow-mul-if8
-mul-if8 c = search rules
+mul_if8 : tie.Need-overflow-mul-if8
+mul_if8 c = search rules
 
-returns-8 : tie.Need-returns-8
-returns-8 c = not-enough _ _ _ _ _ _ (λ h. omega arith)
+returns_8 : tie.Need-returns-8
+returns_8 c = not_enough _ _ _ _ _ _ (λ h. omega arith)
 
-mul-if9 : tie.Need-overflow-mul-if9
-mul-if9 c = search rules
+mul_if9 : tie.Need-overflow-mul-if9
+mul_if9 c = search rules
 
-returns-9 : tie.Need-returns-9
-returns-9 c = not-enough _ _ _ _ _ _ (λ h. omega arith)
+returns_9 : tie.Need-returns-9
+returns_9 c = not_enough _ _ _ _ _ _ (λ h. omega arith)
 
-mul-if10 : tie.Need-overflow-mul-if10
-mul-if10 c = search rules
+mul_if10 : tie.Need-overflow-mul-if10
+mul_if10 c = search rules
 
-returns-10 : tie.Need-returns-10
-returns-10 c = not-enough _ _ _ _ _ _ (λ h. omega arith)
+returns_10 : tie.Need-returns-10
+returns_10 c = not_enough _ _ _ _ _ _ (λ h. omega arith)
 
-returns-11 : tie.Need-returns-11
-returns-11 c =
-    is-enough _ _ _ _ _ _
+returns_11 : tie.Need-returns-11
+returns_11 c =
+    is_enough _ _ _ _ _ _
     (record {
       limits = (omega arith, (omega arith, (omega arith, (omega arith, omega arith))));
-      for-names = omega arith;
-      for-categories = omega arith;
-      for-definitions = omega arith;
-      for-ranges = omega arith;
-      for-references = omega arith;
+      for_names = omega arith;
+      for_categories = omega arith;
+      for_definitions = omega arith;
+      for_ranges = omega arith;
+      for_references = omega arith;
     })
 
-pub is-enough-spec : {M : Type 1} → statement M
-is-enough-spec =
+pub is_enough_spec : {M : Type 1} → statement M
+is_enough_spec =
     tie.close
     (tie.spec
     returns
-    returns-2
-    returns-3
-    returns-4
-    returns-5
-    returns-6
-    mul-if7
-    returns-7
-    mul-if8
-    returns-8
-    mul-if9
-    returns-9
-    mul-if10
-    returns-10
-    returns-11)
+    returns_2
+    returns_3
+    returns_4
+    returns_5
+    returns_6
+    mul_if7
+    returns_7
+    mul_if8
+    returns_8
+    mul_if9
+    returns_9
+    mul_if10
+    returns_10
+    returns_11)

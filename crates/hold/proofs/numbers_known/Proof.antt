@@ -8,59 +8,59 @@ use Rattle.paper.specs.Lists.{all}
 use Rattle.paper.specs.Tables.Layout.{pieces}
 use Rattle.paper.specs.Tables.Lent.{num}
 use Rattle.paper.proofs.Tables.Laws.{left}
-use Rattle.table_rules.proofs.Entries.{all-ends}
-use Rattle.hold.proofs.Known.{isKnown, numbers-begin, number-fails, number-goes}
+use Rattle.table_rules.proofs.Entries.{all_ends}
+use Rattle.hold.proofs.Known.{is_known, numbers_begin, number_fails, number_goes}
 use Rattle.hold.proofs.numbers_known.Statement.{statement}
 use Rattle.hold.proofs.numbers_known.Tie as tie
 
-abbrev invariant-loop : tie.invariant-loop
-invariant-loop references n known i₀ i =
-    (i ≤ n) × (all (isKnown known) (left 2 n i references) ≡ all (λ c. ltb c known) (map (num 2 0) (pieces 2 n references)))
+abbrev invariant_loop : tie.invariant-loop
+invariant_loop references n known i₀ i =
+    (i ≤ n) × (all (is_known known) (left 2 n i references) ≡ all (λ c. ltb c known) (map (num 2 0) (pieces 2 n references)))
 
-abbrev decreases-loop : tie.decreases-loop
-decreases-loop references n known i₀ i = n - i
+abbrev decreases_loop : tie.decreases-loop
+decreases_loop references n known i₀ i = n - i
 
-loop-holds : tie.Need-loop-init invariant-loop decreases-loop
-loop-holds c = (omega arith, numbers-begin _ _ _)
+loop_holds : tie.Need-loop-init invariant_loop decreases_loop
+loop_holds c = (omega arith, numbers_begin _ _ _)
 
-mul-get-u16 : tie.Need-overflow-mul-get-u16 invariant-loop decreases-loop
-mul-get-u16 c = omega arith
+mul_get_u16 : tie.Need-overflow-mul-get-u16 invariant_loop decreases_loop
+mul_get_u16 c = omega arith
 
-get-u16-requires : tie.Need-get-u16-requires invariant-loop decreases-loop
-get-u16-requires c κs = omega arith
+get_u16_requires : tie.Need-get-u16-requires invariant_loop decreases_loop
+get_u16_requires c κs = omega arith
 
-cast-c : tie.Need-overflow-cast-c invariant-loop decreases-loop
-cast-c c = omega arith
+cast_c : tie.Need-overflow-cast-c invariant_loop decreases_loop
+cast_c c = omega arith
 
-returns : tie.Need-returns invariant-loop decreases-loop
+returns : tie.Need-returns invariant_loop decreases_loop
 returns c =
-    number-fails c.before.before.before.before.before.args.known _ _ _ _ _ c.before.before.before.loop.invariant.1
+    number_fails c.before.before.before.before.before.args.known _ _ _ _ _ c.before.before.before.loop.invariant.1
     c.before.before.loop-test.true c.before.before.before.before.before.requires c.before.get-u16.ensures c.if1.true
 
-add-i : tie.Need-overflow-add-i invariant-loop decreases-loop
-add-i c = omega arith
+add_i : tie.Need-overflow-add-i invariant_loop decreases_loop
+add_i c = omega arith
 
-loop-less : tie.Need-loop-smaller invariant-loop decreases-loop
-loop-less c = omega arith
+loop_less : tie.Need-loop-smaller invariant_loop decreases_loop
+loop_less c = omega arith
 
-loop-again : tie.Need-loop-preserved invariant-loop decreases-loop
-loop-again c = (omega arith, number-goes c.before.before.before.before.before.args.known _ _ _ _ _ c.before.before.before.loop.invariant.1 c.before.before.loop-test.true c.before.before.before.before.before.requires c.before.get-u16.ensures c.if1.false)
+loop_again : tie.Need-loop-preserved invariant_loop decreases_loop
+loop_again c = (omega arith, number_goes c.before.before.before.before.before.args.known _ _ _ _ _ c.before.before.before.loop.invariant.1 c.before.before.loop-test.true c.before.before.before.before.before.requires c.before.get-u16.ensures c.if1.false)
 
-returns-2 : tie.Need-returns-2 invariant-loop decreases-loop
-returns-2 c = all-ends 2 (isKnown c.before.before.before.args.known) _ _ _ _ c.before.loop.invariant.1 c.loop-test.false
+returns_2 : tie.Need-returns-2 invariant_loop decreases_loop
+returns_2 c = all_ends 2 (is_known c.before.before.before.args.known) _ _ _ _ c.before.loop.invariant.1 c.loop-test.false
 
-pub numbers-known-spec : {M : Type 1} → statement M
-numbers-known-spec =
+pub numbers_known_spec : {M : Type 1} → statement M
+numbers_known_spec =
     tie.close
     (tie.spec
-    invariant-loop
-    decreases-loop
-    loop-holds
-    mul-get-u16
-    get-u16-requires
-    cast-c
+    invariant_loop
+    decreases_loop
+    loop_holds
+    mul_get_u16
+    get_u16_requires
+    cast_c
     returns
-    add-i
-    loop-less
-    loop-again
-    returns-2)
+    add_i
+    loop_less
+    loop_again
+    returns_2)

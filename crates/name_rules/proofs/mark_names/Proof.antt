@@ -9,35 +9,35 @@ use Rattle.name_rules.proofs.Mark.{marked_more}
 use Rattle.name_rules.proofs.mark_names.Statement.{statement}
 use Rattle.name_rules.proofs.mark_names.Tie as tie
 
-abbrev invariant-loop : tie.invariant-loop
-invariant-loop names categories n marks₀ i₀ marks i = (i ≤ n) × ((length marks ≡ length marks₀) × Marked i categories names marks)
+abbrev invariant_loop : tie.invariant-loop
+invariant_loop names categories n marks₀ i₀ marks i = (i ≤ n) × ((length marks ≡ length marks₀) × Marked i categories names marks)
 
-abbrev decreases-loop : tie.decreases-loop
-decreases-loop names categories n marks₀ i₀ marks i = n - i
+abbrev decreases_loop : tie.decreases-loop
+decreases_loop names categories n marks₀ i₀ marks i = n - i
 
-loop-holds : tie.Need-loop-init invariant-loop decreases-loop
-loop-holds c = (omega arith, (refl, λ i h. absurd (omega arith)))
+loop_holds : tie.Need-loop-init invariant_loop decreases_loop
+loop_holds c = (omega arith, (refl, λ i h. absurd (omega arith)))
 
-name-at-requires : tie.Need-name-at-requires invariant-loop decreases-loop
-name-at-requires c κs = omega arith
+name_at_requires : tie.Need-name-at-requires invariant_loop decreases_loop
+name_at_requires c κs = omega arith
 
-mark-of-requires : tie.Need-mark-of-requires invariant-loop decreases-loop
-mark-of-requires c κs = omega arith
+mark_of_requires : tie.Need-mark-of-requires invariant_loop decreases_loop
+mark_of_requires c κs = omega arith
 
-mul-marks : tie.Need-overflow-mul-marks invariant-loop decreases-loop
-mul-marks c = omega arith
+mul_marks : tie.Need-overflow-mul-marks invariant_loop decreases_loop
+mul_marks c = omega arith
 
-slice-write-marks : tie.Need-slice-write-marks invariant-loop decreases-loop
-slice-write-marks c = omega arith
+slice_write_marks : tie.Need-slice-write-marks invariant_loop decreases_loop
+slice_write_marks c = omega arith
 
-add-i : tie.Need-overflow-add-i invariant-loop decreases-loop
-add-i c = omega arith
+add_i : tie.Need-overflow-add-i invariant_loop decreases_loop
+add_i c = omega arith
 
-loop-less : tie.Need-loop-smaller invariant-loop decreases-loop
-loop-less c = omega arith
+loop_less : tie.Need-loop-smaller invariant_loop decreases_loop
+loop_less c = omega arith
 
-loop-again : tie.Need-loop-preserved invariant-loop decreases-loop
-loop-again c =
+loop_again : tie.Need-loop-preserved invariant_loop decreases_loop
+loop_again c =
     let h : c.before.before.before.loop.i < length c.before.before.before.loop.marks = omega arith in (
       omega arith,
       (
@@ -47,25 +47,25 @@ loop-again c =
       ),
     )
 
-same_length : tie.Need-same-length invariant-loop decreases-loop
+same_length : tie.Need-same-length invariant_loop decreases_loop
 same_length c = c.before.loop.invariant.1.0
 
-returns : tie.Need-returns invariant-loop decreases-loop
+returns : tie.Need-returns invariant_loop decreases_loop
 returns c = λ i h. c.before.loop.invariant.1.1 i (omega arith)
 
-pub mark-names-spec : {M : Type 1} → statement M
-mark-names-spec =
+pub mark_names_spec : {M : Type 1} → statement M
+mark_names_spec =
     tie.close
     (tie.spec
-    invariant-loop
-    decreases-loop
-    loop-holds
-    name-at-requires
-    mark-of-requires
-    mul-marks
-    slice-write-marks
-    add-i
-    loop-less
-    loop-again
+    invariant_loop
+    decreases_loop
+    loop_holds
+    name_at_requires
+    mark_of_requires
+    mul_marks
+    slice_write_marks
+    add_i
+    loop_less
+    loop_again
     same_length
     returns)

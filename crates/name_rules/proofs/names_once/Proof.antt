@@ -5,65 +5,65 @@ use native.Mathlib.Omega.{arith}
 use mathlib.Core.Path.{◌≡◌, refl}
 use Rattle.paper.specs.Pack.Rules.{once}
 use Rattle.paper.proofs.Tables.Laws.{left}
-use Rattle.name_rules.specs.Placed.{placedNames}
-use Rattle.name_rules.proofs.Once.{onceTest, once-begins, once-fails, once-goes, once-ends}
+use Rattle.name_rules.specs.Placed.{placed_names}
+use Rattle.name_rules.proofs.Once.{once_test, once_begins, once_fails, once_goes, once_ends}
 use borrow.Author.Rules.{rules}
 use Rattle.name_rules.proofs.names_once.Statement.{statement}
 use Rattle.name_rules.proofs.names_once.Tie as tie
 
-abbrev invariant-loop : tie.invariant-loop
-invariant-loop names categories n marks i₀ i =
+abbrev invariant_loop : tie.invariant-loop
+invariant_loop names categories n marks i₀ i =
     (i ≤ n)
-    × (onceTest names categories n (placedNames i categories names) (left 4 n i categories) ≡ once (placedNames n categories names))
+    × (once_test names categories n (placed_names i categories names) (left 4 n i categories) ≡ once (placed_names n categories names))
 
-abbrev decreases-loop : tie.decreases-loop
-decreases-loop names categories n marks i₀ i = n - i
+abbrev decreases_loop : tie.decreases-loop
+decreases_loop names categories n marks i₀ i = n - i
 
-slice-aggregate-mark-names : tie.Need-slice-aggregate-mark-names invariant-loop decreases-loop
-slice-aggregate-mark-names c = refl
+slice_aggregate_mark_names : tie.Need-slice-aggregate-mark-names invariant_loop decreases_loop
+slice_aggregate_mark_names c = refl
 
-mark-names-requires : tie.Need-mark-names-requires invariant-loop decreases-loop
-mark-names-requires c κs = c.before.before.before.requires
+mark_names_requires : tie.Need-mark-names-requires invariant_loop decreases_loop
+mark_names_requires c κs = c.before.before.before.requires
 
-loop-holds : tie.Need-loop-init invariant-loop decreases-loop
-loop-holds c = (omega arith, once-begins _ _ _)
+loop_holds : tie.Need-loop-init invariant_loop decreases_loop
+loop_holds c = (omega arith, once_begins _ _ _)
 
-slice-aggregate-is-new : tie.Need-slice-aggregate-is-new invariant-loop decreases-loop
-slice-aggregate-is-new c = search rules
+slice_aggregate_is_new : tie.Need-slice-aggregate-is-new invariant_loop decreases_loop
+slice_aggregate_is_new c = search rules
 
-is-new-requires : tie.Need-is-new-requires invariant-loop decreases-loop
-is-new-requires c κs = ((omega arith, omega (arith, c.before.before.before.before.mark-names.auto.1.1.1.0)), λ k h. c.before.before.before.before.mark-names.ensures k (omega arith))
+is_new_requires : tie.Need-is-new-requires invariant_loop decreases_loop
+is_new_requires c κs = ((omega arith, omega (arith, c.before.before.before.before.mark-names.auto.1.1.1.0)), λ k h. c.before.before.before.before.mark-names.ensures k (omega arith))
 
-returns : tie.Need-returns invariant-loop decreases-loop
+returns : tie.Need-returns invariant_loop decreases_loop
 returns c =
-    once-fails _ _ _ _ _ _ c.before.before.before.before.loop.invariant.1 c.before.is-new.ensures
+    once_fails _ _ _ _ _ _ c.before.before.before.before.loop.invariant.1 c.before.is-new.ensures
     c.before.before.before.loop-test.true c.if1.true
 
-add-i : tie.Need-overflow-add-i invariant-loop decreases-loop
-add-i c = omega arith
+add_i : tie.Need-overflow-add-i invariant_loop decreases_loop
+add_i c = omega arith
 
-loop-less : tie.Need-loop-smaller invariant-loop decreases-loop
-loop-less c = omega arith
+loop_less : tie.Need-loop-smaller invariant_loop decreases_loop
+loop_less c = omega arith
 
-loop-again : tie.Need-loop-preserved invariant-loop decreases-loop
-loop-again c = (omega arith, once-goes _ _ _ _ _ _ c.before.before.before.before.loop.invariant.1 c.before.is-new.ensures c.before.before.before.loop-test.true c.if1.false)
+loop_again : tie.Need-loop-preserved invariant_loop decreases_loop
+loop_again c = (omega arith, once_goes _ _ _ _ _ _ c.before.before.before.before.loop.invariant.1 c.before.is-new.ensures c.before.before.before.loop-test.true c.if1.false)
 
-returns-2 : tie.Need-returns-2 invariant-loop decreases-loop
-returns-2 c = once-ends _ _ _ _ _ c.before.loop.invariant.1 c.loop-test.false
+returns_2 : tie.Need-returns-2 invariant_loop decreases_loop
+returns_2 c = once_ends _ _ _ _ _ c.before.loop.invariant.1 c.loop-test.false
 
-pub names-once-spec : {M : Type 1} → statement M
-names-once-spec =
+pub names_once_spec : {M : Type 1} → statement M
+names_once_spec =
     tie.close
     (tie.spec
-    invariant-loop
-    decreases-loop
-    slice-aggregate-mark-names
-    mark-names-requires
-    loop-holds
-    slice-aggregate-is-new
-    is-new-requires
+    invariant_loop
+    decreases_loop
+    slice_aggregate_mark_names
+    mark_names_requires
+    loop_holds
+    slice_aggregate_is_new
+    is_new_requires
     returns
-    add-i
-    loop-less
-    loop-again
-    returns-2)
+    add_i
+    loop_less
+    loop_again
+    returns_2)

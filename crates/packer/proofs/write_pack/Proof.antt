@@ -10,39 +10,39 @@ use borrow.Author.Rules.{rules}
 use Rattle.packer.proofs.write_pack.Statement.{statement}
 use Rattle.packer.proofs.write_pack.Tie as tie
 
-reading-holds-requires : tie.Need-reading-holds-requires
-reading-holds-requires c κs = search rules
+reading_holds_requires : tie.Need-reading-holds-requires
+reading_holds_requires c κs = search rules
 
 returns : tie.Need-returns
 returns c = apart _ _ _ _ (omega arith) (sym c.before.reading-holds.ensures ∙ not-true _ c.if1.true)
 
-pack-length-requires : tie.Need-pack-length-requires
-pack-length-requires c κs = limited _ _ (asked _ _ (passed _ _ c.before.reading-holds.ensures c.if1.false))
+pack_length_requires : tie.Need-pack-length-requires
+pack_length_requires c κs = limited _ _ (asked _ _ (passed _ _ c.before.reading-holds.ensures c.if1.false))
 
-returns-2 : tie.Need-returns-2
-returns-2 c = short _ _ _ (passed _ _ c.before.before.before.reading-holds.ensures c.before.before.if1.false) _ (omega arith) (omega arith)
+returns_2 : tie.Need-returns-2
+returns_2 c = short _ _ _ (passed _ _ c.before.before.before.reading-holds.ensures c.before.before.if1.false) _ (omega arith) (omega arith)
 
-put-pack-requires : tie.Need-put-pack-requires
-put-pack-requires c κs = (passed _ _ c.before.before.before.before.reading-holds.ensures c.before.before.before.if1.false, omega arith)
+put_pack_requires : tie.Need-put-pack-requires
+put_pack_requires c κs = (passed _ _ c.before.before.before.before.reading-holds.ensures c.before.before.before.if1.false, omega arith)
 
 same_length : tie.Need-same-length
 same_length c = search rules
 
-returns-3 : tie.Need-returns-3
-returns-3 c =
+returns_3 : tie.Need-returns-3
+returns_3 c =
     written _ _ _
     (passed _ _ c.before.before.before.before.before.before.before.reading-holds.ensures
     c.before.before.before.before.before.before.if1.false)
     _ _ c.before.before.before.before.before.pack-length.ensures (omega arith) c.before.before.put-pack.ensures
 
-pub write-pack-spec : {M : Type 1} → statement M
-write-pack-spec =
+pub write_pack_spec : {M : Type 1} → statement M
+write_pack_spec =
     tie.close
     (tie.spec
-    reading-holds-requires
+    reading_holds_requires
     returns
-    pack-length-requires
-    returns-2
-    put-pack-requires
+    pack_length_requires
+    returns_2
+    put_pack_requires
     same_length
-    returns-3)
+    returns_3)

@@ -10,108 +10,108 @@ use mathlib.Core.List.{List}
 use lib.Dec.{ltb}
 use lib.ListN.{length}
 use borrow.Author.Tests.{ltb-true, ltb-false, lt-ltb, le-ltb}
-use Rattle.paper.specs.Sizes.{maxTextBytes}
-use Rattle.paper.specs.Refusals.{textLong, textIllFormed, rangeParts}
+use Rattle.paper.specs.Sizes.{max_text_bytes}
+use Rattle.paper.specs.Refusals.{text_long, text_ill_formed, range_parts}
 use Rattle.paper.specs.Lists.{cut}
 use Rattle.paper.specs.Text.Scalar.{WellFormed, LongestPrefix}
-use Rattle.paper.specs.CharDef.Bad.{FirstBad, BadText, too_long, ill-formed, Answered, fitting, refusing}
-use Rattle.paper.specs.CharDef.Reading.{isLF, Answer, accepted, refused}
+use Rattle.paper.specs.CharDef.Bad.{FirstBad, BadText, too_long, ill_formed, Answered, fitting, refusing}
+use Rattle.paper.specs.CharDef.Reading.{is_lf, Answer, accepted, refused}
 use Rattle.paper.specs.Computed.Decode.{bad, Text, broken, chars, decode}
-use Rattle.paper.specs.Computed.ReadText.{readLines, nothingRead, readChars, readText}
+use Rattle.paper.specs.Computed.ReadText.{read_lines, nothing_read, read_chars, read_text}
 use Rattle.paper.proofs.Apart.{zero_one}
-use Rattle.paper.proofs.Text.Code.{reads, well-formed, ill-read}
-use Rattle.paper.proofs.Text.Prefix.{prefix-of, longest-one}
-use Rattle.paper.proofs.CharDef.Accepts.{accepted-fits, fits-accepted}
-use Rattle.paper.proofs.CharDef.BadLine.{bad-line, bad-number}
-use Rattle.paper.proofs.CharDef.FirstBad.{first-bad, lines-stop, bad-refused}
+use Rattle.paper.proofs.Text.Code.{reads, well_formed, ill_read}
+use Rattle.paper.proofs.Text.Prefix.{prefix_of_lem, longest_one}
+use Rattle.paper.proofs.CharDef.Accepts.{accepted_fits, fits_accepted}
+use Rattle.paper.proofs.CharDef.BadLine.{bad_line, bad_number}
+use Rattle.paper.proofs.CharDef.FirstBad.{first_bad, lines_stop, bad_refused}
 
 -- ---- every text has one of these answers, and only one
 
-pub answered : (bytes : List ℕ) → Answered bytes (readText bytes)
-unfolding readText readChars
-answered bytes = size-case (ltb maxTextBytes (length bytes)) refl refl
+pub answered : (bytes : List ℕ) → Answered bytes (read_text bytes)
+unfolding read_text read_chars
+answered bytes = size_case (ltb max_text_bytes (length bytes)) refl refl
   where
-    lines_case : length bytes ≤ maxTextBytes → (cs : List ℕ) → decode bytes ≡ chars cs → (a : Answer) → readLines 1 (cut isLF cs) nothingRead ≡ a → readText bytes ≡ a → Answered bytes a
-    lines_case short cs e (accepted r) el h = fitting (accepted-fits bytes r h)
+    lines_case : length bytes ≤ max_text_bytes → (cs : List ℕ) → decode bytes ≡ chars cs → (a : Answer) → read_lines 1 (cut is_lf cs) nothing_read ≡ a → read_text bytes ≡ a → Answered bytes a
+    lines_case short cs e (accepted r) el h = fitting (accepted_fits bytes r h)
     lines_case short cs e (refused n place) el h =
-        let s = lines-stop (cut isLF cs) 1 nothingRead n place el in
-        let (low, high) = bad-number ((bad-line s.state s.bad n).0 s.stops) in
-        refusing (BadText.bad-line short ((reads bytes).1 (cs, e)) (first-bad bytes n place h low))
+        let s = lines_stop (cut is_lf cs) 1 nothing_read n place el in
+        let (low, high) = bad_number ((bad_line s.state s.bad n).0 s.stops) in
+        refusing (BadText.bad_line short ((reads bytes).1 (cs, e)) (first_bad bytes n place h low))
 
-    text-case : length bytes ≤ maxTextBytes → (o : Text) → decode bytes ≡ o → readText bytes ≡ readChars o → Answered bytes (readChars o)
-    text-case short (broken p) e h = refusing (ill-formed short (ill-read bytes p e) (prefix-of bytes p e))
-    text-case short (chars cs) e h = lines_case short cs e (readLines 1 (cut isLF cs) nothingRead) refl h
+    text_case : length bytes ≤ max_text_bytes → (o : Text) → decode bytes ≡ o → read_text bytes ≡ read_chars o → Answered bytes (read_chars o)
+    text_case short (broken p) e h = refusing (ill_formed short (ill_read bytes p e) (prefix_of_lem bytes p e))
+    text_case short (chars cs) e h = lines_case short cs e (read_lines 1 (cut is_lf cs) nothing_read) refl h
 
-    size-case : (b : Bool) → ltb maxTextBytes (length bytes) ≡ b → readText bytes ≡ cond b (refused textLong 0) (readChars (decode bytes))
-        → Answered bytes (cond b (refused textLong 0) (readChars (decode bytes)))
-    size-case true e h = refusing (too_long (ltb-true maxTextBytes (length bytes) e))
-    size-case false e h = text-case (ltb-false maxTextBytes (length bytes) e) (decode bytes) refl h
+    size_case : (b : Bool) → ltb max_text_bytes (length bytes) ≡ b → read_text bytes ≡ cond b (refused text_long 0) (read_chars (decode bytes))
+        → Answered bytes (cond b (refused text_long 0) (read_chars (decode bytes)))
+    size_case true e h = refusing (too_long (ltb-true max_text_bytes (length bytes) e))
+    size_case false e h = text_case (ltb-false max_text_bytes (length bytes) e) (decode bytes) refl h
 
-bad-text-read : {n place : ℕ} {bytes : List ℕ} → BadText n place bytes → readText bytes ≡ refused n place
-unfolding readText readChars
-bad-text-read {bytes = bytes} (too_long h) = rw (lt-ltb maxTextBytes (length bytes) h)
-bad-text-read {bytes = bytes} (ill-formed {p = p} short ill f) =
-    rw (le-ltb maxTextBytes (length bytes) short) (go (decode bytes) refl)
+bad_text_read : {n place : ℕ} {bytes : List ℕ} → BadText n place bytes → read_text bytes ≡ refused n place
+unfolding read_text read_chars
+bad_text_read {bytes = bytes} (too_long h) = rw (lt-ltb max_text_bytes (length bytes) h)
+bad_text_read {bytes = bytes} (ill_formed {p = p} short ill f) =
+    rw (le-ltb max_text_bytes (length bytes) short) (go (decode bytes) refl)
   where
-    go : (o : Text) → decode bytes ≡ o → readChars o ≡ refused textIllFormed p
-    go (broken q) e = ap (refused textIllFormed) (longest-one bytes q p (prefix-of bytes q e) f)
+    go : (o : Text) → decode bytes ≡ o → read_chars o ≡ refused text_ill_formed p
+    go (broken q) e = ap (refused text_ill_formed) (longest_one bytes q p (prefix_of_lem bytes q e) f)
     go (chars cs) e = absurd (ill ((reads bytes).1 (cs, e)))
-bad-text-read {bytes = bytes} (BadText.bad-line short w f) =
-    let (cs, e, sc) = (well-formed bytes).0 w in
-    bad-refused short cs e sc f
+bad_text_read {bytes = bytes} (BadText.bad_line short w f) =
+    let (cs, e, sc) = (well_formed bytes).0 w in
+    bad_refused short cs e sc f
 
-pub answered-one : (bytes : List ℕ) (a : Answer) → Answered bytes a → readText bytes ≡ a
-answered-one bytes (accepted r) (fitting f) = fits-accepted bytes r f
-answered-one bytes (refused n place) (refusing b) = bad-text-read b
+pub answered_one : (bytes : List ℕ) (a : Answer) → Answered bytes a → read_text bytes ≡ a
+answered_one bytes (accepted r) (fitting f) = fits_accepted bytes r f
+answered_one bytes (refused n place) (refusing b) = bad_text_read b
 
 -- ---- given exactly when
 
-read-bad-text : (bytes : List ℕ) (n place : ℕ) → readText bytes ≡ refused n place → BadText n place bytes
-read-bad-text bytes n place h = go (subst (Answered bytes) h (answered bytes))
+read_bad_text : (bytes : List ℕ) (n place : ℕ) → read_text bytes ≡ refused n place → BadText n place bytes
+read_bad_text bytes n place h = go (subst (Answered bytes) h (answered bytes))
   where
     go : Answered bytes (refused n place) → BadText n place bytes
     go (refusing b) = b
 
-pub refused-text : (bytes : List ℕ) (n place : ℕ) → (readText bytes ≡ refused n place) ↔ BadText n place bytes
-refused-text bytes n place = (read-bad-text bytes n place, bad-text-read)
+pub refused_text : (bytes : List ℕ) (n place : ℕ) → (read_text bytes ≡ refused n place) ↔ BadText n place bytes
+refused_text bytes n place = (read_bad_text bytes n place, bad_text_read)
 
 -- one number and one place at most
-pub refused-one : (bytes : List ℕ) (n m place other : ℕ) → BadText n place bytes → BadText m other bytes → (n ≡ m) × (place ≡ other)
-refused-one bytes n m place other a b =
-    let e : readText bytes ≡ refused n place = bad-text-read a in
-    let d : readText bytes ≡ refused m other = bad-text-read b in
+pub refused_one : (bytes : List ℕ) (n m place other : ℕ) → BadText n place bytes → BadText m other bytes → (n ≡ m) × (place ≡ other)
+refused_one bytes n m place other a b =
+    let e : read_text bytes ≡ refused n place = bad_text_read a in
+    let d : read_text bytes ≡ refused m other = bad_text_read b in
     (cc, cc)
 
-long-text : {n place : ℕ} {bytes : List ℕ} → BadText n place bytes → n ≡ textLong → (maxTextBytes < length bytes) × (place ≡ 0)
-long-text (too_long h) e = (h, refl)
-long-text (ill-formed short ill p) e = zero_one (omega arith)
-long-text (BadText.bad-line short w f) e = let b = bad-number f.wrong in zero_one (omega arith)
+long_text : {n place : ℕ} {bytes : List ℕ} → BadText n place bytes → n ≡ text_long → (max_text_bytes < length bytes) × (place ≡ 0)
+long_text (too_long h) e = (h, refl)
+long_text (ill_formed short ill p) e = zero_one (omega arith)
+long_text (BadText.bad_line short w f) e = let b = bad_number f.wrong in zero_one (omega arith)
 
-ill-text : {n place : ℕ} {bytes : List ℕ} → BadText n place bytes → n ≡ textIllFormed
-    → (length bytes ≤ maxTextBytes) × (WellFormed bytes → ⊥) × LongestPrefix place bytes
-ill-text (too_long h) e = zero_one (omega arith)
-ill-text (ill-formed short ill p) e = (short, ill, p)
-ill-text (BadText.bad-line short w f) e = let b = bad-number f.wrong in zero_one (omega arith)
+ill_text : {n place : ℕ} {bytes : List ℕ} → BadText n place bytes → n ≡ text_ill_formed
+    → (length bytes ≤ max_text_bytes) × (WellFormed bytes → ⊥) × LongestPrefix place bytes
+ill_text (too_long h) e = zero_one (omega arith)
+ill_text (ill_formed short ill p) e = (short, ill, p)
+ill_text (BadText.bad_line short w f) e = let b = bad_number f.wrong in zero_one (omega arith)
 
-line-text : {n place : ℕ} {bytes : List ℕ} → BadText n place bytes → rangeParts ≤ n
-    → (length bytes ≤ maxTextBytes) × WellFormed bytes × FirstBad n place bytes
-line-text (too_long h) low = zero_one (omega arith)
-line-text (ill-formed short ill p) low = zero_one (omega arith)
-line-text (BadText.bad-line short w f) low = (short, w, f)
+line_text : {n place : ℕ} {bytes : List ℕ} → BadText n place bytes → range_parts ≤ n
+    → (length bytes ≤ max_text_bytes) × WellFormed bytes × FirstBad n place bytes
+line_text (too_long h) low = zero_one (omega arith)
+line_text (ill_formed short ill p) low = zero_one (omega arith)
+line_text (BadText.bad_line short w f) low = (short, w, f)
 
 -- 2
-pub too-long-exactly : (bytes : List ℕ) (place : ℕ) → (readText bytes ≡ refused textLong place) ↔ ((maxTextBytes < length bytes) × (place ≡ 0))
-too-long-exactly bytes place =
-    (λ h. long-text (read-bad-text bytes textLong place h) refl, λ (h, e). bad-text-read (too_long h) ∙ ap (refused textLong) (sym e))
+pub too_long_exactly : (bytes : List ℕ) (place : ℕ) → (read_text bytes ≡ refused text_long place) ↔ ((max_text_bytes < length bytes) × (place ≡ 0))
+too_long_exactly bytes place =
+    (λ h. long_text (read_bad_text bytes text_long place h) refl, λ (h, e). bad_text_read (too_long h) ∙ ap (refused text_long) (sym e))
 
 -- 3
-pub ill-formed-exactly : (bytes : List ℕ) (place : ℕ)
-    → (readText bytes ≡ refused textIllFormed place) ↔ ((length bytes ≤ maxTextBytes) × (WellFormed bytes → ⊥) × LongestPrefix place bytes)
-ill-formed-exactly bytes place =
-    (λ h. ill-text (read-bad-text bytes textIllFormed place h) refl, λ (short, ill, p). bad-text-read (ill-formed short ill p))
+pub ill_formed_exactly : (bytes : List ℕ) (place : ℕ)
+    → (read_text bytes ≡ refused text_ill_formed place) ↔ ((length bytes ≤ max_text_bytes) × (WellFormed bytes → ⊥) × LongestPrefix place bytes)
+ill_formed_exactly bytes place =
+    (λ h. ill_text (read_bad_text bytes text_ill_formed place h) refl, λ (short, ill, p). bad_text_read (ill_formed short ill p))
 
 -- 4 to 13
-pub refused-exactly : (bytes : List ℕ) (n place : ℕ) → rangeParts ≤ n
-    → (readText bytes ≡ refused n place) ↔ ((length bytes ≤ maxTextBytes) × WellFormed bytes × FirstBad n place bytes)
-refused-exactly bytes n place low =
-    (λ h. line-text (read-bad-text bytes n place h) low, λ (short, w, f). bad-text-read (BadText.bad-line short w f))
+pub refused_exactly : (bytes : List ℕ) (n place : ℕ) → range_parts ≤ n
+    → (read_text bytes ≡ refused n place) ↔ ((length bytes ≤ max_text_bytes) × WellFormed bytes × FirstBad n place bytes)
+refused_exactly bytes n place low =
+    (λ h. line_text (read_bad_text bytes n place h) low, λ (short, w, f). bad_text_read (BadText.bad_line short w f))

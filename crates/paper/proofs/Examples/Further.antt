@@ -3,8 +3,8 @@
 use mathlib.Core.Path.{◌≡◌, refl}
 use mathlib.Core.List.{List, [], ◌∷◌, map}
 use Rattle.paper.specs.CharDef.Reading.{refused}
-use Rattle.paper.specs.Computed.ReadText.{readText}
-use Rattle.paper.proofs.Examples.CharDef.{Example, Holds, All, ex, refusal, bounds, names_at, rows_are, boundaries-are}
+use Rattle.paper.specs.Computed.ReadText.{read_text}
+use Rattle.paper.proofs.Examples.CharDef.{Example, Holds, All, ex, refusal, bounds, names_at, rows_are, boundaries_are}
 
 unfoldable pub further : List Example
 further =
@@ -21,16 +21,16 @@ further =
     ∷ ex "\u{3000}A 1 0 2\u{3000}" (rows_are ([] ∷ []))
     ∷ ex "A 1 0\u{3000} 2" (refusal 8 1)
     ∷ ex "DEFAULT 1 0 2\n0x41 A" (rows_are (("DEFAULT" ∷ []) ∷ ("A" ∷ []) ∷ ("DEFAULT" ∷ []) ∷ []))
-    ∷ ex "0xFFFF A" (boundaries-are (0 ∷ 0xFFFF ∷ 0x10000 ∷ []))
+    ∷ ex "0xFFFF A" (boundaries_are (0 ∷ 0xFFFF ∷ 0x10000 ∷ []))
     ∷ ex "0xFFFE A" (refusal 6 1)
     ∷ ex "A 1 0 2 3" (refusal 7 1)
     ∷ ex "A 00000000000000000001 0 2\r" (rows_are ([] ∷ []))
     ∷ []
 
-pub further-hold : All further
+pub further_hold : All further
 unfolding Holds further
-further-hold = (refl, (refl, (refl, (refl, (refl, (refl, (refl, (refl, (refl, (refl, (refl, (refl, (refl, (refl, (refl, (refl, (refl, tt)))))))))))))))))
+further_hold = (refl, (refl, (refl, (refl, (refl, (refl, (refl, (refl, (refl, (refl, (refl, (refl, (refl, (refl, (refl, (refl, (refl, tt)))))))))))))))))
 
-broken-text : map readText ((0xC0 ∷ []) ∷ (0x41 ∷ 0xE3 ∷ 0x81 ∷ []) ∷ (0x41 ∷ 0xED ∷ 0xA0 ∷ 0x80 ∷ []) ∷ []) ≡ refused 3 0 ∷ refused 3 1 ∷ refused 3 1 ∷ []
-unfolding readText
-broken-text = refl
+broken_text : map read_text ((0xC0 ∷ []) ∷ (0x41 ∷ 0xE3 ∷ 0x81 ∷ []) ∷ (0x41 ∷ 0xED ∷ 0xA0 ∷ 0x80 ∷ []) ∷ []) ≡ refused 3 0 ∷ refused 3 1 ∷ refused 3 1 ∷ []
+unfolding read_text
+broken_text = refl

@@ -3,16 +3,16 @@
 -- Assumes nothing.
 use Prim.Native.Nat.{ℕ, zero, suc, ◌/◌, ◌%◌}
 use Prim.Native.Char.{code}
-use Prim.Native.String.{String, [] as empty-text, ◌∷◌ as ◌then◌}
+use Prim.Native.String.{String, [] as empty_text, ◌∷◌ as ◌then◌}
 use mathlib.Core.Path.{◌≡◌, refl}
 use mathlib.Core.Bool.{Bool, true, false}
 use mathlib.Core.List.{List, [], ◌∷◌, ◌++◌, map}
 use lib.ListN.{length, replicate}
 use Rattle.paper.specs.Lists.{select}
-use Rattle.paper.specs.Text.Scalar.{isSep}
-use Rattle.paper.specs.Numbers.Numeral.{digitOf}
-use Rattle.paper.specs.CharDef.Reading.{Reading, Answer, accepted, nameBytes, references}
-use Rattle.paper.specs.Computed.ReadText.{Step, go_on, stop, verdict, readText}
+use Rattle.paper.specs.Text.Scalar.{is_sep}
+use Rattle.paper.specs.Numbers.Numeral.{digit_of}
+use Rattle.paper.specs.CharDef.Reading.{Reading, Answer, accepted, name_bytes, references}
+use Rattle.paper.specs.Computed.ReadText.{Step, go_on, stop, verdict, read_text}
 use Rattle.paper.proofs.Examples.CharDef.{bytes_of, Example, Holds, All, ex, refusal}
 
 -- ---- which refusal comes first
@@ -48,9 +48,9 @@ orders =
     ∷ ex "A 1 0 2\n0xFEFF\n0xZZ" (refusal 6 2)
     ∷ []
 
-orders-hold : All orders
+orders_hold : All orders
 unfolding Holds orders
-orders-hold = (refl, (refl, (refl, (refl, (refl, (refl, (refl, (refl, (refl, (refl, (refl, (refl, (refl, (refl, (refl, (refl, (refl, (refl, (refl, (refl, (refl, tt)))))))))))))))))))))
+orders_hold = (refl, (refl, (refl, (refl, (refl, (refl, (refl, (refl, (refl, (refl, (refl, (refl, (refl, (refl, (refl, (refl, (refl, (refl, (refl, (refl, (refl, tt)))))))))))))))))))))
 
 -- ---- what is read
 
@@ -113,23 +113,23 @@ said =
     ∷ []
 
 abbrev answers : List Said → List Answer
-answers ss = map (λ s. readText (bytes_of s.text)) ss
+answers ss = map (λ s. read_text (bytes_of s.text)) ss
 
-said-hold : answers said ≡ map (λ s. accepted (reading s)) said
-unfolding readText said reading
-said-hold = refl
+said_hold : answers said ≡ map (λ s. accepted (reading s)) said
+unfolding read_text said reading
+said_hold = refl
 
 -- ---- each limit and one more
 
 -- the characters of a line
-unfoldable charsOf : String → List ℕ
-charsOf empty-text = []
-charsOf (◌then◌ c s) = code c ∷ charsOf s
+unfoldable chars_of : String → List ℕ
+chars_of empty_text = []
+chars_of (◌then◌ c s) = code c ∷ chars_of s
 
 -- so many names of 2 bytes and as many more, no two the same
-unfoldable manyNames : ℕ → ℕ → List (List ℕ)
-manyNames zero more = []
-manyNames (suc k) more = ((k / 256) ∷ (k % 256) ∷ replicate more 0) ∷ manyNames k more
+unfoldable many_names : ℕ → ℕ → List (List ℕ)
+many_names zero more = []
+many_names (suc k) more = ((k / 256) ∷ (k % 256) ∷ replicate more 0) ∷ many_names k more
 
 -- names, so many definitions, and ranges with so many references each
 unfoldable state : List (List ℕ) → ℕ → List ℕ → Reading
@@ -147,7 +147,7 @@ pub data Outcome : Type 0 where
 
 abbrev pub outcome : Step → Outcome
 outcome (stop n) = stops n
-outcome (go_on r) = counts (length r.names) (length r.definitions) (length r.ranges) (references r.ranges) (nameBytes r.names)
+outcome (go_on r) = counts (length r.names) (length r.definitions) (length r.ranges) (references r.ranges) (name_bytes r.names)
 
 pub record Limit : Type 0 where
   pub before : Reading
@@ -159,22 +159,22 @@ at r l o = record { before = r; line = l; after = o }
 
 -- `A` and others: 511 and 512 names; 16,383 and 16,384 bytes, in 32 names and in 511 or 512
 names511 : List (List ℕ)
-names511 = (0x41 ∷ []) ∷ manyNames 510 0
+names511 = (0x41 ∷ []) ∷ many_names 510 0
 
 names512 : List (List ℕ)
-names512 = (0x41 ∷ []) ∷ manyNames 511 0
+names512 = (0x41 ∷ []) ∷ many_names 511 0
 
 bytes16383 : List (List ℕ)
-bytes16383 = replicate 511 0xFF ∷ manyNames 31 510
+bytes16383 = replicate 511 0xFF ∷ many_names 31 510
 
 bytes16384 : List (List ℕ)
-bytes16384 = manyNames 32 510
+bytes16384 = many_names 32 510
 
 names511bytes16383 : List (List ℕ)
-names511bytes16383 = replicate 63 0xFF ∷ manyNames 510 30
+names511bytes16383 = replicate 63 0xFF ∷ many_names 510 30
 
 names512bytes16384 : List (List ℕ)
-names512bytes16384 = manyNames 512 30
+names512bytes16384 = many_names 512 30
 
 -- 8,191 and 8,192 references in 16 ranges; and 8,192 in 2,048
 references8191 : List ℕ
@@ -187,7 +187,7 @@ ranges2048references8192 : List ℕ
 ranges2048references8192 = replicate 16 512 ++ replicate 2032 0
 
 unfoldable limits : List Limit
-unfolding manyNames state names511 names512 bytes16383 bytes16384 names511bytes16383 names512bytes16384 references8191 references8192 ranges2048references8192
+unfolding many_names state names511 names512 bytes16383 bytes16384 names511bytes16383 names512bytes16384 references8191 references8192 ranges2048references8192
 limits =
     -- 9
     at (state [] 0 (replicate 2047 0)) "0x41" (counts 0 0 2048 0 0)
@@ -225,9 +225,9 @@ limits =
     ∷ at (state names512 512 ranges2048references8192) "# B" (counts 512 512 2048 8192 1023)
     ∷ []
 
-limits-hold : map (λ l. outcome (verdict l.before (charsOf l.line))) limits ≡ map (λ l. l.after) limits
-unfolding limits verdict charsOf references nameBytes
-limits-hold = refl
+limits_hold : map (λ l. outcome (verdict l.before (chars_of l.line))) limits ≡ map (λ l. l.after) limits
+unfolding limits verdict chars_of references name_bytes
+limits_hold = refl
 
 -- ---- characters
 
@@ -237,15 +237,15 @@ counted zero k = []
 counted (suc n) k = k ∷ counted n (suc k)
 
 -- hex digits of both cases, and 16 for what is none, over the first 128 characters
-digits_are : map digitOf (counted 128 0) ≡
+digits_are : map digit_of (counted 128 0) ≡
     replicate 48 16 ++ (0 ∷ 1 ∷ 2 ∷ 3 ∷ 4 ∷ 5 ∷ 6 ∷ 7 ∷ 8 ∷ 9 ∷ [])
     ++ replicate 7 16 ++ (10 ∷ 11 ∷ 12 ∷ 13 ∷ 14 ∷ 15 ∷ [])
     ++ replicate 26 16 ++ (10 ∷ 11 ∷ 12 ∷ 13 ∷ 14 ∷ 15 ∷ [])
     ++ replicate 25 16
-unfolding digitOf counted
+unfolding digit_of counted
 digits_are = refl
 
 -- the separators of a category line, over the characters up to U+3000
-separators-are : select isSep (counted 0x3001 0) ≡ 0x09 ∷ 0x0C ∷ 0x0D ∷ 0x20 ∷ []
-unfolding isSep counted
-separators-are = refl
+separators_are : select is_sep (counted 0x3001 0) ≡ 0x09 ∷ 0x0C ∷ 0x0D ∷ 0x20 ∷ []
+unfolding is_sep counted
+separators_are = refl

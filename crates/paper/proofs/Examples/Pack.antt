@@ -6,8 +6,8 @@ use mathlib.Core.Path.{◌≡◌, refl}
 use mathlib.Core.Bool.{true, false}
 use mathlib.Core.List.{List, [], ◌∷◌, map}
 use Rattle.paper.specs.CharDef.Reading.{Answer, accepted, refused}
-use Rattle.paper.specs.Computed.ReadPack.{readPack}
-use Rattle.paper.specs.Computed.ReadText.{readText}
+use Rattle.paper.specs.Computed.ReadPack.{read_pack}
+use Rattle.paper.specs.Computed.ReadText.{read_text}
 use Rattle.paper.proofs.Examples.CharDef.{bytes_of}
 
 pub record PackExample : Type 0 where
@@ -107,16 +107,16 @@ packs =
     ∷ pk (0x01 ∷ 0x00 ∷ 0x00 ∷ 0x10 ∷ 0x00 ∷ 0x00 ∷ 0x01 ∷ 0xFF ∷ 0xFF ∷ 0xFF ∷ 0xFF ∷ []) (accepted (record { names = []; definitions = (record { invoke = false; group = true; len = 4294967295 } ∷ []); ranges = [] }))
     ∷ []
 
-pub packs-give : map (λ e. readPack e.bytes) packs ≡ map (λ e. e.gives) packs
-unfolding packs readPack
-packs-give = refl
+pub packs_give : map (λ e. read_pack e.bytes) packs ≡ map (λ e. e.gives) packs
+unfolding packs read_pack
+packs_give = refl
 
 -- the paper's packs and the pack with a range are read as their texts are
-pub texts-packs : map readPack (
+pub texts_packs : map read_pack (
     (0x01 ∷ 0x00 ∷ 0x00 ∷ 0x00 ∷ 0x00 ∷ 0x00 ∷ 0x00 ∷ [])
     ∷ (0x01 ∷ 0x00 ∷ 0x40 ∷ 0x10 ∷ 0x00 ∷ 0x00 ∷ 0x00 ∷ 0x00 ∷ 0x0A ∷ 0x0C ∷ 0x00 ∷ 0x00 ∷ 0x00 ∷ 0x04 ∷ [])
     ∷ (0x01 ∷ 0x00 ∷ 0x80 ∷ 0x00 ∷ 0x01 ∷ 0x00 ∷ 0x08 ∷ 0x00 ∷ 0x0A ∷ 0x10 ∷ 0x00 ∷ 0x14 ∷ 0x10 ∷ 0x04 ∷ 0x30 ∷ 0x04 ∷ 0x10 ∷ 0x00 ∷ 0x80 ∷ 0x00 ∷ 0x10 ∷ [])
     ∷ []
-    ) ≡ map (λ t. readText (bytes_of t)) ("" ∷ "A 1 0 2" ∷ "0x43..0x41 B A" ∷ [])
-unfolding readPack readText bytes_of
-texts-packs = refl
+    ) ≡ map (λ t. read_text (bytes_of t)) ("" ∷ "A 1 0 2" ∷ "0x43..0x41 B A" ∷ [])
+unfolding read_pack read_text bytes_of
+texts_packs = refl

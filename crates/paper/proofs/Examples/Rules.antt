@@ -6,7 +6,7 @@ use mathlib.Core.Path.{◌≡◌, refl}
 use mathlib.Core.Bool.{Bool, true, false}
 use mathlib.Core.List.{List, [], ◌∷◌, map}
 use Rattle.paper.specs.CharDef.Reading.{Definition, Range, Reading}
-use Rattle.paper.specs.Computed.Rules.{keepsRules}
+use Rattle.paper.specs.Computed.Rules.{keeps_rules}
 
 pub record RulesExample : Type 0 where
   pub reading : Reading
@@ -74,6 +74,6 @@ readings =
     ∷ ranged ((0x41 ∷ []) ∷ []) (refers (0 ∷ []) ∷ refers (0 ∷ 1 ∷ []) ∷ []) false
     ∷ []
 
-pub readings-keep : map (λ e. keepsRules e.reading) readings ≡ map (λ e. e.keeps) readings
-unfolding readings keepsRules
-readings-keep = refl
+pub readings_keep : map (λ e. keeps_rules e.reading) readings ≡ map (λ e. e.keeps) readings
+unfolding readings keeps_rules
+readings_keep = refl

@@ -11,34 +11,34 @@ use lib.Dec.{T, leb}
 use lib.ListN.{length, replicate}
 use mir.Facts.{and_yes, or_yes, leb_yes}
 use Rattle.paper.specs.Lists.{any, all, select}
-use Rattle.paper.specs.Text.Scalar.{between, is_scalar, utf8, whites, isWhite, isSep}
+use Rattle.paper.specs.Text.Scalar.{between, is_scalar, utf8, whites, is_white, is_sep}
 use Rattle.paper.specs.Computed.Decode.{broken, chars, decode}
 
 -- ---- White_Space
 
 -- the 25 characters with the property White_Space in PropList.txt
-abbrev pub unicodeWhite : List ℕ
-unicodeWhite =
+abbrev pub unicode_white : List ℕ
+unicode_white =
     0x0009 ∷ 0x000A ∷ 0x000B ∷ 0x000C ∷ 0x000D ∷ 0x0020 ∷ 0x0085 ∷ 0x00A0 ∷ 0x1680 ∷ 0x2000 ∷ 0x2001 ∷ 0x2002 ∷ 0x2003 ∷ 0x2004 ∷ 0x2005
     ∷ 0x2006 ∷ 0x2007 ∷ 0x2008 ∷ 0x2009 ∷ 0x200A ∷ 0x2028 ∷ 0x2029 ∷ 0x202F ∷ 0x205F ∷ 0x3000 ∷ []
 
-pub count-white : length unicodeWhite ≡ 25
-count-white = refl
+pub count_white : length unicode_white ≡ 25
+count_white = refl
 
 -- these are white; the neighbours of each run and of each one alone are not (`examples`, White: no other up to 3001 hex)
-pub white-ones : map isWhite unicodeWhite ≡ replicate 25 true
-unfolding isWhite
-white-ones = refl
+pub white_ones : map is_white unicode_white ≡ replicate 25 true
+unfolding is_white
+white_ones = refl
 
-pub white-edges :
-    map isWhite (0x08 ∷ 0x0E ∷ 0x1F ∷ 0x21 ∷ 0x84 ∷ 0x86 ∷ 0x9F ∷ 0xA1 ∷ 0x167F ∷ 0x1681 ∷ 0x1FFF ∷ 0x200B ∷ 0x2027 ∷ 0x202A ∷ 0x202E ∷ 0x2030 ∷ 0x205E ∷ 0x2060 ∷ 0x2FFF ∷ 0x3001 ∷ [])
+pub white_edges :
+    map is_white (0x08 ∷ 0x0E ∷ 0x1F ∷ 0x21 ∷ 0x84 ∷ 0x86 ∷ 0x9F ∷ 0xA1 ∷ 0x167F ∷ 0x1681 ∷ 0x1FFF ∷ 0x200B ∷ 0x2027 ∷ 0x202A ∷ 0x202E ∷ 0x2030 ∷ 0x205E ∷ 0x2060 ∷ 0x2FFF ∷ 0x3001 ∷ [])
     ≡ replicate 20 false
-unfolding isWhite
-white-edges = refl
+unfolding is_white
+white_edges = refl
 
 -- past 3000 nothing is
-pub white_low : (c : ℕ) → T (isWhite c) → c ≤ 0x3000
-unfolding isWhite
+pub white_low : (c : ℕ) → T (is_white c) → c ≤ 0x3000
+unfolding is_white
 white_low c t = go whites tt t
   where
     go : (runs : List (ℕ × ℕ)) → T (all (λ r. leb r.1 0x3000) runs) → T (any (λ r. between r.0 r.1 c) runs) → c ≤ 0x3000
@@ -53,20 +53,20 @@ white_low c t = go whites tt t
         either (inr b) ih = ih b
 
 -- Mongolian vowel separator, zero width space, and the mark
-pub not_white : map isWhite (0x180E ∷ 0x200B ∷ 0xFEFF ∷ []) ≡ false ∷ false ∷ false ∷ []
-unfolding isWhite
+pub not_white : map is_white (0x180E ∷ 0x200B ∷ 0xFEFF ∷ []) ≡ false ∷ false ∷ false ∷ []
+unfolding is_white
 not_white = refl
 
 -- TAB, FF, CR and space; VT is none, nor LF
-pub separators : select isSep unicodeWhite ≡ 0x09 ∷ 0x0C ∷ 0x0D ∷ 0x20 ∷ []
-unfolding isSep
+pub separators : select is_sep unicode_white ≡ 0x09 ∷ 0x0C ∷ 0x0D ∷ 0x20 ∷ []
+unfolding is_sep
 separators = refl
 
 -- ---- scalar values
 
-pub scalar-edges : map is_scalar (0 ∷ 0xD7FF ∷ 0xD800 ∷ 0xDFFF ∷ 0xE000 ∷ 0xFEFF ∷ 0xFFFE ∷ 0x10FFFF ∷ 0x110000 ∷ []) ≡ true ∷ true ∷ false ∷ false ∷ true ∷ true ∷ true ∷ true ∷ false ∷ []
+pub scalar_edges : map is_scalar (0 ∷ 0xD7FF ∷ 0xD800 ∷ 0xDFFF ∷ 0xE000 ∷ 0xFEFF ∷ 0xFFFE ∷ 0x10FFFF ∷ 0x110000 ∷ []) ≡ true ∷ true ∷ false ∷ false ∷ true ∷ true ∷ true ∷ true ∷ false ∷ []
 unfolding is_scalar
-scalar-edges = refl
+scalar_edges = refl
 
 -- ---- UTF-8
 

@@ -10,7 +10,7 @@ use mathlib.Core.List.{List, [], ◌∷◌, ◌++◌, map, append_assoc, append-
 use lib.Dec.{T, eqb, eqb→eq}
 use lib.ListN.{length, length-append}
 use mir.Facts.{and_yes, yes_and, not_T}
-use Rattle.paper.specs.Lists.{empty, all, full, nothingOr, push, cut, words, until, trimStart, trimEnd, any, joined, sum, offsetsFrom}
+use Rattle.paper.specs.Lists.{empty, all, full, nothing_or, push, cut, words, until, trim_start, trim_end, any, joined, sum, offsets_from}
 
 pub T→true : (b : Bool) → T b → b ≡ true
 T→true true t = refl
@@ -28,13 +28,13 @@ pub false→T : (b : Bool) → b ≡ false → T (not b)
 false→T true e = subst (λ b. T (not b)) (sym e) tt
 false→T false e = tt
 
-pub or-true : (b : Bool) → (b || true) ≡ true
-or-true true = refl
-or-true false = refl
+pub or_true : (b : Bool) → (b || true) ≡ true
+or_true true = refl
+or_true false = refl
 
-pub and-false : (b : Bool) → (b && false) ≡ false
-and-false true = refl
-and-false false = refl
+pub and_false : (b : Bool) → (b && false) ≡ false
+and_false true = refl
+and_false false = refl
 
 pub or_left : (a b : Bool) → T a → T (a || b)
 or_left true b t = tt
@@ -53,13 +53,13 @@ abbrev pub below : (ℕ → Bool) → ℕ → Bool
 below p zero = true
 below p (suc n) = p n && below p n
 
-pub from-below : (p : ℕ → Bool) (n : ℕ) → T (below p n) → (c : ℕ) → c < n → T (p c)
-from-below p zero t c h = absurd (not-suc-le-zero h)
-from-below p (suc n) t c h =
+pub from_below : (p : ℕ → Bool) (n : ℕ) → T (below p n) → (c : ℕ) → c < n → T (p c)
+from_below p zero t c h = absurd (not-suc-le-zero h)
+from_below p (suc n) t c h =
     let both = and_yes (p n) (below p n) t in
     elim (ℕ_discrete c n) [
       | yes e ↦ subst (λ k. T (p k)) (sym e) both.0
-      | no d ↦ from-below p n both.1 c (omega arith)
+      | no d ↦ from_below p n both.1 c (omega arith)
     ]
 
 module _ {A : Type 0} (p : A → Bool) where
@@ -85,133 +85,133 @@ module _ {A : Type 0} (p : A → Bool) where
       go true ih = refl
       go false ih = ih
 
-  pub full-all : (s : List A) → T (full p s) → T (all p s)
-  full-all [] a = absurd a
-  full-all (x ∷ s) a = a
+  pub full_all : (s : List A) → T (full p s) → T (all p s)
+  full_all [] a = absurd a
+  full_all (x ∷ s) a = a
 
-  pub all-imp : (q : A → Bool) → ((c : A) → T (p c) → T (q c)) → (s : List A) → T (all p s) → T (all q s)
-  all-imp q f [] a = tt
-  all-imp q f (x ∷ s) a =
+  pub all_imp : (q : A → Bool) → ((c : A) → T (p c) → T (q c)) → (s : List A) → T (all p s) → T (all q s)
+  all_imp q f [] a = tt
+  all_imp q f (x ∷ s) a =
       let h = and_yes (p x) (all p s) a in
-      yes_and (q x) (all q s) (f x h.0) (all-imp q f s h.1)
+      yes_and (q x) (all q s) (f x h.0) (all_imp q f s h.1)
 
-  pub full-imp : (q : A → Bool) → ((c : A) → T (p c) → T (q c)) → (s : List A) → T (full p s) → T (full q s)
-  full-imp q f [] a = absurd a
-  full-imp q f (x ∷ s) a = all-imp q f (x ∷ s) a
+  pub full_imp : (q : A → Bool) → ((c : A) → T (p c) → T (q c)) → (s : List A) → T (full p s) → T (full q s)
+  full_imp q f [] a = absurd a
+  full_imp q f (x ∷ s) a = all_imp q f (x ∷ s) a
 
   abbrev pub un : A → Bool
   un c = not (p c)
 
   -- up to a comment
-  pub until-append : (s r : List A) → T (all un s) → T (nothingOr p r) → until p (s ++ r) ≡ s
-  until-append [] [] a e = refl
-  until-append [] (x ∷ r) a e = rw (T→true (p x) e)
-  until-append (x ∷ s) r a e =
+  pub until_append : (s r : List A) → T (all un s) → T (nothing_or p r) → until p (s ++ r) ≡ s
+  until_append [] [] a e = refl
+  until_append [] (x ∷ r) a e = rw (T→true (p x) e)
+  until_append (x ∷ s) r a e =
       let h = and_yes (un x) (all un s) a in
-      rw (T→false (p x) h.0, until-append s r h.1 e)
+      rw (T→false (p x) h.0, until_append s r h.1 e)
 
   -- what stands behind a run
-  pub trimStart-append : (s r : List A) → T (all p s) → T (nothingOr un r) → trimStart p (s ++ r) ≡ r
-  trimStart-append [] [] a e = refl
-  trimStart-append [] (x ∷ r) a e = rw (T→false (p x) e)
-  trimStart-append (x ∷ s) r a e =
+  pub trim_start_append : (s r : List A) → T (all p s) → T (nothing_or un r) → trim_start p (s ++ r) ≡ r
+  trim_start_append [] [] a e = refl
+  trim_start_append [] (x ∷ r) a e = rw (T→false (p x) e)
+  trim_start_append (x ∷ s) r a e =
       let h = and_yes (p x) (all p s) a in
-      rw (T→true (p x) h.0) (trimStart-append s r h.1 e)
+      rw (T→true (p x) h.0) (trim_start_append s r h.1 e)
 
-  pub trimEnd-run : (s : List A) → T (all p s) → trimEnd p s ≡ []
-  trimEnd-run [] a = refl
-  trimEnd-run (x ∷ s) a =
+  pub trim_end_run : (s : List A) → T (all p s) → trim_end p s ≡ []
+  trim_end_run [] a = refl
+  trim_end_run (x ∷ s) a =
       let h = and_yes (p x) (all p s) a in
-      rw (T→true (p x) h.0, trimEnd-run s h.1)
+      rw (T→true (p x) h.0, trim_end_run s h.1)
 
   -- what stands before a run
-  pub trimEnd-solid : (y w : List A) → T (full un y) → T (all p w) → trimEnd p (y ++ w) ≡ y
-  trimEnd-solid [] w a b = absurd a
-  trimEnd-solid (x ∷ []) w a b =
-      rw (T→false (p x) (and_yes (un x) true a).0, trimEnd-run w b)
-  trimEnd-solid (x ∷ z ∷ y) w a b =
+  pub trim_end_solid : (y w : List A) → T (full un y) → T (all p w) → trim_end p (y ++ w) ≡ y
+  trim_end_solid [] w a b = absurd a
+  trim_end_solid (x ∷ []) w a b =
+      rw (T→false (p x) (and_yes (un x) true a).0, trim_end_run w b)
+  trim_end_solid (x ∷ z ∷ y) w a b =
       let h = and_yes (un x) (all un (z ∷ y)) a in
-      rw (T→false (p x) h.0) (ap (λ l. x ∷ l) (trimEnd-solid (z ∷ y) w h.1 b))
+      rw (T→false (p x) h.0) (ap (λ l. x ∷ l) (trim_end_solid (z ∷ y) w h.1 b))
 
-  trimEnd-front : (x : A) (s t : List A) → trimEnd p s ≡ t → T (not (empty t)) → trimEnd p (x ∷ s) ≡ x ∷ t
-  trimEnd-front x s [] e n = absurd n
-  trimEnd-front x s (y ∷ t) e n = go (p x)
+  trim_end_front : (x : A) (s t : List A) → trim_end p s ≡ t → T (not (empty t)) → trim_end p (x ∷ s) ≡ x ∷ t
+  trim_end_front x s [] e n = absurd n
+  trim_end_front x s (y ∷ t) e n = go (p x)
     where
-      go : (b : Bool) → cond (b && empty (trimEnd p s)) [] (x ∷ trimEnd p s) ≡ x ∷ y ∷ t
+      go : (b : Bool) → cond (b && empty (trim_end p s)) [] (x ∷ trim_end p s) ≡ x ∷ y ∷ t
       go true = rw e
       go false = rw e
 
-  append-some : (x y : List A) → T (not (empty y)) → T (not (empty (x ++ y)))
-  append-some [] y n = n
-  append-some (a ∷ x) y n = tt
+  append_some : (x y : List A) → T (not (empty y)) → T (not (empty (x ++ y)))
+  append_some [] y n = n
+  append_some (a ∷ x) y n = tt
 
-  full-some : (y : List A) → T (full un y) → T (not (empty y))
-  full-some [] n = n
-  full-some (a ∷ y) n = tt
+  full_some : (y : List A) → T (full un y) → T (not (empty y))
+  full_some [] n = n
+  full_some (a ∷ y) n = tt
 
-  pub trimEnd-append : (x y w : List A) → T (full un y) → T (all p w) → trimEnd p (x ++ (y ++ w)) ≡ x ++ y
-  trimEnd-append [] y w a b = trimEnd-solid y w a b
-  trimEnd-append (c ∷ x) y w a b =
-      trimEnd-front c (x ++ (y ++ w)) (x ++ y) (trimEnd-append x y w a b) (append-some x y (full-some y a))
+  pub trim_end_append : (x y w : List A) → T (full un y) → T (all p w) → trim_end p (x ++ (y ++ w)) ≡ x ++ y
+  trim_end_append [] y w a b = trim_end_solid y w a b
+  trim_end_append (c ∷ x) y w a b =
+      trim_end_front c (x ++ (y ++ w)) (x ++ y) (trim_end_append x y w a b) (append_some x y (full_some y a))
 
 -- ---- lists one behind another
 
-pub map-append : {A B : Type 0} (f : A → B) (s t : List A) → map f (s ++ t) ≡ map f s ++ map f t
-map-append f [] t = refl
-map-append f (x ∷ s) t = ap (λ l. f x ∷ l) (map-append f s t)
+pub map_append : {A B : Type 0} (f : A → B) (s t : List A) → map f (s ++ t) ≡ map f s ++ map f t
+map_append f [] t = refl
+map_append f (x ∷ s) t = ap (λ l. f x ∷ l) (map_append f s t)
 
-pub joined-append : {A : Type 0} (s t : List (List A)) → joined (s ++ t) ≡ joined s ++ joined t
-joined-append [] t = refl
-joined-append (x ∷ s) t = ap (λ l. x ++ l) (joined-append s t) ∙ sym (append_assoc x (joined s) (joined t))
+pub joined_append : {A : Type 0} (s t : List (List A)) → joined (s ++ t) ≡ joined s ++ joined t
+joined_append [] t = refl
+joined_append (x ∷ s) t = ap (λ l. x ++ l) (joined_append s t) ∙ sym (append_assoc x (joined s) (joined t))
 
 pub joined_snoc : {A : Type 0} (ls : List (List A)) (l : List A) → joined (ls ++ (l ∷ [])) ≡ joined ls ++ l
-joined_snoc ls l = joined-append ls (l ∷ []) ∙ ap (λ s. joined ls ++ s) (append-nil l)
+joined_snoc ls l = joined_append ls (l ∷ []) ∙ ap (λ s. joined ls ++ s) (append-nil l)
 
-pub joined-map : {A B : Type 0} (f : A → List B) (s t : List A) → joined (map f (s ++ t)) ≡ joined (map f s) ++ joined (map f t)
-joined-map f s t = ap joined (map-append f s t) ∙ joined-append (map f s) (map f t)
+pub joined_map : {A B : Type 0} (f : A → List B) (s t : List A) → joined (map f (s ++ t)) ≡ joined (map f s) ++ joined (map f t)
+joined_map f s t = ap joined (map_append f s t) ∙ joined_append (map f s) (map f t)
 
-pub joined-map-snoc : {A B : Type 0} (f : A → List B) (s : List A) (x : A) → joined (map f (s ++ (x ∷ []))) ≡ joined (map f s) ++ f x
-joined-map-snoc f s x = joined-map f s (x ∷ []) ∙ ap (λ l. joined (map f s) ++ l) (append-nil (f x))
+pub joined_map_snoc : {A B : Type 0} (f : A → List B) (s : List A) (x : A) → joined (map f (s ++ (x ∷ []))) ≡ joined (map f s) ++ f x
+joined_map_snoc f s x = joined_map f s (x ∷ []) ∙ ap (λ l. joined (map f s) ++ l) (append-nil (f x))
 
-pub sum-append : (s t : List ℕ) → sum (s ++ t) ≡ sum s + sum t
-sum-append [] t = omega arith
-sum-append (x ∷ s) t = ap (λ n. x + n) (sum-append s t) ∙ sym (add_assoc x (sum s) (sum t))
+pub sum_append : (s t : List ℕ) → sum (s ++ t) ≡ sum s + sum t
+sum_append [] t = omega arith
+sum_append (x ∷ s) t = ap (λ n. x + n) (sum_append s t) ∙ sym (add_assoc x (sum s) (sum t))
 
 pub joined_length : {A : Type 0} (ls : List (List A)) → length (joined ls) ≡ sum (map length ls)
 joined_length [] = refl
 joined_length (l ∷ ls) = length-append l (joined ls) ∙ ap (λ n. length l + n) (joined_length ls)
 
-pub offsets-length : {A : Type 0} (at : ℕ) (ls : List (List A)) → length (offsetsFrom at ls) ≡ length ls
-offsets-length at [] = refl
-offsets-length at (l ∷ ls) = ap suc (offsets-length (at + length l) ls)
+pub offsets_length : {A : Type 0} (at : ℕ) (ls : List (List A)) → length (offsets_from at ls) ≡ length ls
+offsets_length at [] = refl
+offsets_length at (l ∷ ls) = ap suc (offsets_length (at + length l) ls)
 
 -- ---- words
 
-abbrev pub pushAll : {A : Type 0} → List A → List (List A) → List (List A)
-pushAll [] ls = ls
-pushAll (x ∷ s) ls = push x (pushAll s ls)
+abbrev pub push_all : {A : Type 0} → List A → List (List A) → List (List A)
+push_all [] ls = ls
+push_all (x ∷ s) ls = push x (push_all s ls)
 
 module _ {A : Type 0} (p : A → Bool) where
-  pub cut-run : (f r : List A) → T (all (un p) f) → cut p (f ++ r) ≡ pushAll f (cut p r)
-  cut-run [] r a = refl
-  cut-run (x ∷ f) r a =
+  pub cut_run : (f r : List A) → T (all (un p) f) → cut p (f ++ r) ≡ push_all f (cut p r)
+  cut_run [] r a = refl
+  cut_run (x ∷ f) r a =
       let h = and_yes (un p x) (all (un p) f) a in
-      rw (T→false (p x) h.0, cut-run f r h.1)
+      rw (T→false (p x) h.0, cut_run f r h.1)
 
-  pub pushAll-first : (f : List A) (ls : List (List A)) → pushAll f ([] ∷ ls) ≡ f ∷ ls
-  pushAll-first [] ls = refl
-  pushAll-first (x ∷ f) ls = rw (pushAll-first f ls)
+  pub push_all_first : (f : List A) (ls : List (List A)) → push_all f ([] ∷ ls) ≡ f ∷ ls
+  push_all_first [] ls = refl
+  push_all_first (x ∷ f) ls = rw (push_all_first f ls)
 
   -- a word and what stands behind it
-  pub words-word : (f r : List A) → T (full (un p) f) → T (nothingOr p r) → words p (f ++ r) ≡ f ∷ words p r
-  words-word [] r a e = absurd a
-  words-word (x ∷ f) [] a e = rw (cut-run (x ∷ f) [] a, pushAll-first (x ∷ f) [])
-  words-word (x ∷ f) (y ∷ r) a e =
-      rw (cut-run (x ∷ f) (y ∷ r) a, T→true (p y) e, pushAll-first (x ∷ f) (cut p r))
+  pub words_word : (f r : List A) → T (full (un p) f) → T (nothing_or p r) → words p (f ++ r) ≡ f ∷ words p r
+  words_word [] r a e = absurd a
+  words_word (x ∷ f) [] a e = rw (cut_run (x ∷ f) [] a, push_all_first (x ∷ f) [])
+  words_word (x ∷ f) (y ∷ r) a e =
+      rw (cut_run (x ∷ f) (y ∷ r) a, T→true (p y) e, push_all_first (x ∷ f) (cut p r))
 
   -- a run before a word does not count
-  pub words-run : (w r : List A) → T (all p w) → words p (w ++ r) ≡ words p r
-  words-run [] r a = refl
-  words-run (x ∷ w) r a =
+  pub words_run : (w r : List A) → T (all p w) → words p (w ++ r) ≡ words p r
+  words_run [] r a = refl
+  words_run (x ∷ w) r a =
       let h = and_yes (p x) (all p w) a in
-      rw (T→true (p x) h.0) (words-run w r h.1)
+      rw (T→true (p x) h.0) (words_run w r h.1)

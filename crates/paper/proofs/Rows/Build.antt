@@ -9,18 +9,18 @@ use mathlib.Core.Option.{some}
 use lib.Dec.{leb, ltb}
 use lib.ListN.{length, length-map}
 use borrow.Author.Tests.{leb-true, leb-false, lt-ltb, le-ltb}
-use Rattle.paper.specs.Sizes.{maxRows, maxRowPlaces, maxPackBytes, maxFlatRow, bmpSize}
+use Rattle.paper.specs.Sizes.{max_rows, max_row_places, max_pack_bytes, max_flat_row, bmp_size}
 use Rattle.paper.specs.Lists.{all, any}
 use Rattle.paper.specs.CharDef.Reading.{Reading}
 use Rattle.paper.specs.Rows.Covering.{rows}
-use Rattle.paper.specs.Rows.Flat.{shortRows, flatPool}
-use Rattle.paper.specs.Rows.Build.{rowsNeeded, placesNeeded, rowOverlong, built, rowsBuilt, flatBuilt, packWritten, ExactNeeds}
+use Rattle.paper.specs.Rows.Flat.{short_rows, flat_pool}
+use Rattle.paper.specs.Rows.Build.{rows_needed, places_needed, row_overlong, built, rows_built, flat_built, pack_written, ExactNeeds}
 use Rattle.paper.specs.Pack.Rules.{PackRules}
-use Rattle.paper.proofs.Lists.Facts.{joined_length, offsets-length}
-use Rattle.paper.proofs.Rows.Boundaries.{row-for-each}
-use Rattle.paper.proofs.Rows.Sizes.{boundaries-fit, places-fit}
-use Rattle.paper.proofs.Rows.Flat.{index-length}
-use Rattle.paper.proofs.Pack.Size.{pack-length}
+use Rattle.paper.proofs.Lists.Facts.{joined_length, offsets_length}
+use Rattle.paper.proofs.Rows.Boundaries.{row_for_each}
+use Rattle.paper.proofs.Rows.Sizes.{boundaries_fit, places_fit}
+use Rattle.paper.proofs.Rows.Flat.{index_length}
+use Rattle.paper.proofs.Pack.Size.{pack_length_lem}
 
 above : (m n : ℕ) → ltb m n ≡ not (leb n m)
 above m n = go (leb n m) refl
@@ -30,49 +30,49 @@ above m n = go (leb n m) refl
     go false e = lt-ltb m n (leb-false n m e)
 
 -- 16 where not every row is short
-pub overlong-is : (r : Reading) → rowOverlong r ≡ not (shortRows (rows r))
-unfolding rowOverlong shortRows
-overlong-is r = go (rows r)
+pub overlong_is : (r : Reading) → row_overlong r ≡ not (short_rows (rows r))
+unfolding row_overlong short_rows
+overlong_is r = go (rows r)
   where
     demorgan : (a b : Bool) → (not a || not b) ≡ not (a && b)
     demorgan true b = refl
     demorgan false b = refl
 
-    go : (ws : List (List ℕ)) → any (λ w. ltb maxFlatRow (length w)) ws ≡ not (all (λ w. leb (length w) maxFlatRow) ws)
+    go : (ws : List (List ℕ)) → any (λ w. ltb max_flat_row (length w)) ws ≡ not (all (λ w. leb (length w) max_flat_row) ws)
     go [] = refl
-    go (w ∷ ws) = ap₂ (λ x y. x || y) (above maxFlatRow (length w)) (go ws) ∙ demorgan (leb (length w) maxFlatRow) _
+    go (w ∷ ws) = ap₂ (λ x y. x || y) (above max_flat_row (length w)) (go ws) ∙ demorgan (leb (length w) max_flat_row) _
 
 -- the exact needs are the lengths of what is filled
 pub exact : (r : Reading) → ExactNeeds r
-unfolding rowsNeeded placesNeeded flatPool
+unfolding rows_needed places_needed flat_pool
 exact r =
     record {
-      of-boundaries = refl;
-      of-starts = sym (offsets-length 0 (rows r) ∙ row-for-each r);
-      of-lengths = sym (length-map (rows r) length ∙ row-for-each r);
-      of-pool = sym (joined_length (rows r));
-      of-index = sym (index-length r);
+      of_boundaries = refl;
+      of_starts = sym (offsets_length 0 (rows r) ∙ row_for_each r);
+      of_lengths = sym (length-map (rows r) length ∙ row_for_each r);
+      of_pool = sym (joined_length (rows r));
+      of_index = sym (index_length r);
     }
 
 -- ---- rooms of the full sizes
 
 module _ (r : Reading) (k : PackRules r) where
-  enough-rows : ltb maxRows (rowsNeeded r) ≡ false
-  unfolding rowsNeeded
-  enough-rows = le-ltb maxRows _ (boundaries-fit r k.limits)
+  enough_rows : ltb max_rows (rows_needed r) ≡ false
+  unfolding rows_needed
+  enough_rows = le-ltb max_rows _ (boundaries_fit r k.limits)
 
-  enough-places : ltb maxRowPlaces (placesNeeded r) ≡ false
-  unfolding placesNeeded
-  enough-places = le-ltb maxRowPlaces _ (places-fit r k.limits k.known)
+  enough_places : ltb max_row_places (places_needed r) ≡ false
+  unfolding places_needed
+  enough_places = le-ltb max_row_places _ (places_fit r k.limits k.known)
 
-  pub rows-always : rowsBuilt (some r) maxRows maxRows maxRows maxRowPlaces ≡ built
-  unfolding rowsBuilt
-  rows-always = rw (enough-rows, enough-places)
+  pub rows_always : rows_built (some r) max_rows max_rows max_rows max_row_places ≡ built
+  unfolding rows_built
+  rows_always = rw (enough_rows, enough_places)
 
-  pub flat-always : rowOverlong r ≡ false → flatBuilt (some r) bmpSize maxRowPlaces ≡ built
-  unfolding flatBuilt
-  flat-always e = rw (e, enough-places)
+  pub flat_always : row_overlong r ≡ false → flat_built (some r) bmp_size max_row_places ≡ built
+  unfolding flat_built
+  flat_always e = rw (e, enough_places)
 
-  pub pack-always : packWritten (some r) maxPackBytes ≡ built
-  unfolding packWritten
-  pack-always = rw (le-ltb maxPackBytes _ (pack-length r k.limits))
+  pub pack_always : pack_written (some r) max_pack_bytes ≡ built
+  unfolding pack_written
+  pack_always = rw (le-ltb max_pack_bytes _ (pack_length_lem r k.limits))

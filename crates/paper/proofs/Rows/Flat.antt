@@ -10,16 +10,16 @@ use lib.Dec.{T, leb}
 use lib.ListN.{length, get_or, take, drop, length-map}
 use lib.Seq.{take-append_seam, drop-append-add}
 use mir.Facts.{and_yes, leb_yes}
-use Rattle.paper.specs.Sizes.{maxFlatRow, maxRowPlaces, maxU32, bmpSize}
+use Rattle.paper.specs.Sizes.{max_flat_row, max_row_places, max_u32, bmp_size}
 use Rattle.paper.specs.Lists.{all, joined, sum}
 use Rattle.paper.specs.CharDef.Reading.{Reading, Within}
-use Rattle.paper.specs.Rows.Covering.{categoriesAt, boundaries, rows}
-use Rattle.paper.specs.Rows.Flat.{rowNumber, entry_of, entryOffset, entryLength, maxOffset, offset_of, flatEntry, entryPart, shortRows, counting, flatIndex, flatPool}
+use Rattle.paper.specs.Rows.Covering.{categories_at, boundaries, rows}
+use Rattle.paper.specs.Rows.Flat.{row_number, entry_of, entry_offset, entry_length, max_offset, offset_of, flat_entry, entry_part, short_rows, counting, flat_index, flat_pool}
 use Rattle.paper.specs.Pack.Rules.{numbered}
 use Rattle.paper.proofs.Lists.Facts.{joined_length}
-use Rattle.paper.proofs.Rows.Boundaries.{row-for-each}
-use Rattle.paper.proofs.Rows.Sizes.{places-fit}
-use Rattle.paper.proofs.Rows.Search.{row-found, found-row}
+use Rattle.paper.proofs.Rows.Boundaries.{row_for_each}
+use Rattle.paper.proofs.Rows.Sizes.{places_fit}
+use Rattle.paper.proofs.Rows.Search.{row_found, found_row_lem}
 
 -- ---- rows one behind another
 
@@ -29,71 +29,71 @@ part_of [] i h = absurd (not-suc-le-zero h)
 part_of (w ∷ ws) zero h = take-append_seam w (joined ws)
 part_of (w ∷ ws) (suc i) h = rw (drop-append-add w (joined ws) (sum (map length (take i ws)))) (part_of ws i (le_of_suc-le-suc h))
 
-pub part-inside : (ws : List (List ℕ)) (i : ℕ) → i < length ws → offset_of ws i + length (get_or ws i []) ≤ sum (map length ws)
+pub part_inside : (ws : List (List ℕ)) (i : ℕ) → i < length ws → offset_of ws i + length (get_or ws i []) ≤ sum (map length ws)
 unfolding offset_of
-part-inside [] i h = absurd (not-suc-le-zero h)
-part-inside (w ∷ ws) zero h = omega arith
-part-inside (w ∷ ws) (suc i) h = let k = part-inside ws i (le_of_suc-le-suc h) in omega arith
+part_inside [] i h = absurd (not-suc-le-zero h)
+part_inside (w ∷ ws) zero h = omega arith
+part_inside (w ∷ ws) (suc i) h = let k = part_inside ws i (le_of_suc-le-suc h) in omega arith
 
-row-short : (ws : List (List ℕ)) (i : ℕ) → T (shortRows ws) → length (get_or ws i []) ≤ maxFlatRow
-unfolding shortRows
-row-short [] i t = zero-le
-row-short (w ∷ ws) zero t = leb_yes (and_yes (leb (length w) maxFlatRow) (all (λ w. leb (length w) maxFlatRow) ws) t).0
-row-short (w ∷ ws) (suc i) t = row-short ws i (and_yes (leb (length w) maxFlatRow) (all (λ w. leb (length w) maxFlatRow) ws) t).1
+row_short : (ws : List (List ℕ)) (i : ℕ) → T (short_rows ws) → length (get_or ws i []) ≤ max_flat_row
+unfolding short_rows
+row_short [] i t = zero-le
+row_short (w ∷ ws) zero t = leb_yes (and_yes (leb (length w) max_flat_row) (all (λ w. leb (length w) max_flat_row) ws) t).0
+row_short (w ∷ ws) (suc i) t = row_short ws i (and_yes (leb (length w) max_flat_row) (all (λ w. leb (length w) max_flat_row) ws) t).1
 
 -- ---- an entry
 
-entry-parts : (o l : ℕ) → l ≤ maxFlatRow → (entryOffset (entry_of o l) ≡ o) × (entryLength (entry_of o l) ≡ l)
-entry-parts o l h = (omega arith, omega arith)
+entry_parts : (o l : ℕ) → l ≤ max_flat_row → (entry_offset (entry_of o l) ≡ o) × (entry_length (entry_of o l) ≡ l)
+entry_parts o l h = (omega arith, omega arith)
 
 module _ (r : Reading) (c : ℕ) where
-  pub row_inside : rowNumber (boundaries r) c < length (rows r)
-  row_inside = rw row-for-each (row-found r c).inside
+  pub row_inside : row_number (boundaries r) c < length (rows r)
+  row_inside = rw row_for_each (row_found r c).inside
 
   -- offset and length of the row that is found
-  pub flat-offset : T (shortRows (rows r)) → entryOffset (flatEntry r c) ≡ offset_of (rows r) (rowNumber (boundaries r) c)
-  unfolding flatEntry
-  flat-offset t = (entry-parts _ _ (row-short (rows r) (rowNumber (boundaries r) c) t)).0
+  pub flat_offset : T (short_rows (rows r)) → entry_offset (flat_entry r c) ≡ offset_of (rows r) (row_number (boundaries r) c)
+  unfolding flat_entry
+  flat_offset t = (entry_parts _ _ (row_short (rows r) (row_number (boundaries r) c) t)).0
 
-  pub flat-length : T (shortRows (rows r)) → entryLength (flatEntry r c) ≡ length (get_or (rows r) (rowNumber (boundaries r) c) [])
-  unfolding flatEntry
-  flat-length t = (entry-parts (offset_of (rows r) (rowNumber (boundaries r) c)) _ (row-short (rows r) (rowNumber (boundaries r) c) t)).1
+  pub flat_length : T (short_rows (rows r)) → entry_length (flat_entry r c) ≡ length (get_or (rows r) (row_number (boundaries r) c) [])
+  unfolding flat_entry
+  flat_length t = (entry_parts (offset_of (rows r) (row_number (boundaries r) c)) _ (row_short (rows r) (row_number (boundaries r) c) t)).1
 
   -- the part of the pool at the entry's offset and length is the covering rule
-  pub flat-part : T (shortRows (rows r)) → entryPart (flatEntry r c) (flatPool r) ≡ categoriesAt r c
-  unfolding entryPart flatPool
-  flat-part t =
-      rw (flat-offset t, flat-length t) (part_of (rows r) (rowNumber (boundaries r) c) row_inside ∙ found-row r c _ (row-found r c))
+  pub flat_part_lem : T (short_rows (rows r)) → entry_part (flat_entry r c) (flat_pool r) ≡ categories_at r c
+  unfolding entry_part flat_pool
+  flat_part_lem t =
+      rw (flat_offset t, flat_length t) (part_of (rows r) (row_number (boundaries r) c) row_inside ∙ found_row_lem r c _ (row_found r c))
 
-  pub flat-inside : T (shortRows (rows r)) → entryOffset (flatEntry r c) + entryLength (flatEntry r c) ≤ length (flatPool r)
-  unfolding flatPool
-  flat-inside t = rw (flat-offset t, flat-length t, joined_length (rows r)) (part-inside (rows r) (rowNumber (boundaries r) c) row_inside)
+  pub flat_inside : T (short_rows (rows r)) → entry_offset (flat_entry r c) + entry_length (flat_entry r c) ≤ length (flat_pool r)
+  unfolding flat_pool
+  flat_inside t = rw (flat_offset t, flat_length t, joined_length (rows r)) (part_inside (rows r) (row_number (boundaries r) c) row_inside)
 
   -- an offset has 24 bits, an entry 32
-  pub offset-fits : Within r → T (numbered r) → T (shortRows (rows r)) → entryOffset (flatEntry r c) ≤ maxOffset
-  offset-fits w u t =
-      let b : offset_of (rows r) (rowNumber (boundaries r) c) + length (get_or (rows r) (rowNumber (boundaries r) c) []) ≤ sum (map length (rows r)) = part-inside (rows r) (rowNumber (boundaries r) c) row_inside in
-      let d : sum (map length (rows r)) ≤ maxRowPlaces = places-fit r w u in
-      rw (flat-offset t) (omega arith)
+  pub offset_fits : Within r → T (numbered r) → T (short_rows (rows r)) → entry_offset (flat_entry r c) ≤ max_offset
+  offset_fits w u t =
+      let b : offset_of (rows r) (row_number (boundaries r) c) + length (get_or (rows r) (row_number (boundaries r) c) []) ≤ sum (map length (rows r)) = part_inside (rows r) (row_number (boundaries r) c) row_inside in
+      let d : sum (map length (rows r)) ≤ max_row_places = places_fit r w u in
+      rw (flat_offset t) (omega arith)
 
-  pub entry-fits : Within r → T (numbered r) → T (shortRows (rows r)) → flatEntry r c ≤ maxU32
-  entry-fits w u t = let a = offset-fits w u t in omega arith
+  pub entry_fits : Within r → T (numbered r) → T (short_rows (rows r)) → flat_entry r c ≤ max_u32
+  entry_fits w u t = let a = offset_fits w u t in omega arith
 
 -- ---- the index
 
-counting-length : (i n : ℕ) → length (counting i n) ≡ n
-counting-length i zero = refl
-counting-length i (suc n) = ap suc (counting-length (suc i) n)
+counting_length : (i n : ℕ) → length (counting i n) ≡ n
+counting_length i zero = refl
+counting_length i (suc n) = ap suc (counting_length (suc i) n)
 
-counting-at : (f : ℕ → ℕ) (i n k : ℕ) → k < n → get_or (map f (counting i n)) k 0 ≡ f (i + k)
-counting-at f i zero k h = absurd (not-suc-le-zero h)
-counting-at f i (suc n) zero h = let e : i ≡ i + 0 = omega arith in ap f e
-counting-at f i (suc n) (suc k) h = let e : suc i + k ≡ i + suc k = omega arith in counting-at f (suc i) n k (le_of_suc-le-suc h) ∙ ap f e
+counting_at : (f : ℕ → ℕ) (i n k : ℕ) → k < n → get_or (map f (counting i n)) k 0 ≡ f (i + k)
+counting_at f i zero k h = absurd (not-suc-le-zero h)
+counting_at f i (suc n) zero h = let e : i ≡ i + 0 = omega arith in ap f e
+counting_at f i (suc n) (suc k) h = let e : suc i + k ≡ i + suc k = omega arith in counting_at f (suc i) n k (le_of_suc-le-suc h) ∙ ap f e
 
-pub index-length : (r : Reading) → length (flatIndex r) ≡ bmpSize
-unfolding flatIndex
-index-length r = length-map (counting 0 bmpSize) (flatEntry r) ∙ counting-length 0 bmpSize
+pub index_length : (r : Reading) → length (flat_index r) ≡ bmp_size
+unfolding flat_index
+index_length r = length-map (counting 0 bmp_size) (flat_entry r) ∙ counting_length 0 bmp_size
 
-pub index_at : (r : Reading) (c : ℕ) → c < bmpSize → get_or (flatIndex r) c 0 ≡ flatEntry r c
-unfolding flatIndex
-index_at r c h = let e : 0 + c ≡ c = omega arith in counting-at (flatEntry r) 0 bmpSize c h ∙ ap (flatEntry r) e
+pub index_at : (r : Reading) (c : ℕ) → c < bmp_size → get_or (flat_index r) c 0 ≡ flat_entry r c
+unfolding flat_index
+index_at r c h = let e : 0 + c ≡ c = omega arith in counting_at (flat_entry r) 0 bmp_size c h ∙ ap (flat_entry r) e

@@ -2,20 +2,20 @@
 -- before it. Bodies, fields and bounds in the words of "The lines of char.def"; what comes first in the words of "Order".
 -- Assumes nothing.
 use Rattle.std.specs.Prelude.{ℕ, ◌+◌, ◌<◌, ◌≤◌, ◌≡◌, ◌≢◌, ◌⊎◌, Bool, false, not, List, [], ◌∷◌, ◌++◌, T, length}
-use Rattle.paper.specs.Sizes.{maxU16, maxCategories, maxNameBytes, maxCategoryLines, maxRanges, maxReferences, lineFields}
-use Rattle.paper.specs.Refusals.{rangeParts, boundUnreadable, boundMark, categoryFields, categoryNumber, rangesFull, referencesFull, categoryLinesFull, categoriesFull, nameBytesFull}
-use Rattle.paper.specs.Lists.{all, full, any, same, without, freshAfter}
-use Rattle.paper.specs.Text.Scalar.{isWhite, isSep, hash, dot, byteOrderMark, swappedMark}
+use Rattle.paper.specs.Sizes.{max_u16, max_categories, max_name_bytes, max_category_lines, max_ranges, max_references, line_fields}
+use Rattle.paper.specs.Refusals.{range_parts, bound_unreadable, bound_mark, category_fields, category_number, ranges_full, references_full, category_lines_full, categories_full, name_bytes_full}
+use Rattle.paper.specs.Lists.{all, full, any, same, without, fresh_after}
+use Rattle.paper.specs.Text.Scalar.{is_white, is_sep, hash, dot, byte_order_mark, swapped_mark}
 use Rattle.paper.specs.Numbers.Numeral.{Numeral, NoU32, hexadecimal}
-use Rattle.paper.specs.CharDef.Line.{Line, category, range, LineFits, comment, begins0x, beginsWhite, zeroXs, Bound}
-use Rattle.paper.specs.CharDef.Reading.{Reading, names_of, nameBytes, references}
+use Rattle.paper.specs.CharDef.Line.{Line, category, range, LineFits, comment, begins0x, begins_white, zero_xs, Bound}
+use Rattle.paper.specs.CharDef.Reading.{Reading, names_of, name_bytes, references}
 
 -- ---- the body and its fields
 
-abbrev pub endsWhite : List ℕ → Bool
-endsWhite [] = false
-endsWhite (c ∷ []) = isWhite c
-endsWhite (c ∷ d ∷ cs) = endsWhite (d ∷ cs)
+abbrev pub ends_white : List ℕ → Bool
+ends_white [] = false
+ends_white (c ∷ []) = is_white c
+ends_white (c ∷ d ∷ cs) = ends_white (d ∷ cs)
 
 -- what stands before the first `#`, with White_Space trimmed at both ends
 pub record Body (cs body : List ℕ) : Type 0 where
@@ -23,32 +23,32 @@ pub record Body (cs body : List ℕ) : Type 0 where
   pub after : List ℕ
   pub rest : List ℕ
   pub whole : cs ≡ before ++ (body ++ (after ++ rest))
-  pub whiteBefore : T (all isWhite before)
-  pub noHash : T (without hash body)
-  pub opens : T (not (beginsWhite body))
-  pub closes : T (not (endsWhite body))
-  pub whiteAfter : T (all isWhite after)
-  pub isComment : T (comment rest)
+  pub white_before : T (all is_white before)
+  pub no_hash : T (without hash body)
+  pub opens : T (not (begins_white body))
+  pub closes : T (not (ends_white body))
+  pub white_after : T (all is_white after)
+  pub is_comment : T (comment rest)
 
 -- fields with separators between them
 pub data Fields (separates : ℕ → Bool) : List ℕ → List (List ℕ) → Type 0 where
-  last-field : {field : List ℕ} → T (full (λ c. not (separates c)) field) → Fields separates field (field ∷ [])
-  more-fields : {cs field : List ℕ} {fields : List (List ℕ)} (gap rest : List ℕ) → cs ≡ field ++ (gap ++ rest)
+  last_field : {field : List ℕ} → T (full (λ c. not (separates c)) field) → Fields separates field (field ∷ [])
+  more_fields : {cs field : List ℕ} {fields : List (List ℕ)} (gap rest : List ℕ) → cs ≡ field ++ (gap ++ rest)
       → T (full (λ c. not (separates c)) field) → T (full separates gap) → Fields separates rest fields → Fields separates cs (field ∷ fields)
 
 -- a range line's body begins `0x`, and its fields are split at White_Space: the bounds, and names
 pub record RangeFields (cs bounds : List ℕ) (names : List (List ℕ)) : Type 0 where
   pub body : List ℕ
-  pub isBody : Body cs body
+  pub is_body : Body cs body
   pub opens0x : T (begins0x body)
-  pub split : Fields isWhite body (bounds ∷ names)
+  pub split : Fields is_white body (bounds ∷ names)
 
 -- a category line's body does not begin so, and its fields are split at TAB, FF, CR and space only
 pub record CategoryFields (cs : List ℕ) (fields : List (List ℕ)) : Type 0 where
   pub body : List ℕ
-  pub isBody : Body cs body
-  pub opensNo0x : T (not (begins0x body))
-  pub split : Fields isSep body fields
+  pub is_body : Body cs body
+  pub opens_no0x : T (not (begins0x body))
+  pub split : Fields is_sep body fields
 
 -- ---- bounds
 
@@ -58,8 +58,8 @@ NoDots cs = (a b : List ℕ) → cs ≡ a ++ (dot ∷ dot ∷ b) → ⊥
 
 -- split at each `..` found from the left: one part is both bounds, two are lower and upper. No `..` begins before the first one
 pub data Parts (bounds lower upper : List ℕ) : Type 0 where
-  one-part : NoDots bounds → lower ≡ bounds → upper ≡ bounds → Parts bounds lower upper
-  two-parts : bounds ≡ lower ++ (dot ∷ dot ∷ upper) → NoDots (lower ++ (dot ∷ [])) → NoDots upper → Parts bounds lower upper
+  one_part : NoDots bounds → lower ≡ bounds → upper ≡ bounds → Parts bounds lower upper
+  two_parts : bounds ≡ lower ++ (dot ∷ dot ∷ upper) → NoDots (lower ++ (dot ∷ [])) → NoDots upper → Parts bounds lower upper
 
 -- three or more: two `..` that do not overlap
 pub record ThreeParts (bounds : List ℕ) : Type 0 where
@@ -72,45 +72,45 @@ pub record ThreeParts (bounds : List ℕ) : Type 0 where
 pub record Hex16 (part : List ℕ) (code : ℕ) : Type 0 where
   pub times : ℕ
   pub numeral : List ℕ
-  pub whole : part ≡ zeroXs times ++ numeral
-  pub number : Numeral hexadecimal maxU16 numeral code
+  pub whole : part ≡ zero_xs times ++ numeral
+  pub number : Numeral hexadecimal max_u16 numeral code
 
 pub data BadBound (part : List ℕ) : ℕ → Type 0 where
   -- 5: bound is no 16-bit hex number
-  no-hex : ((code : ℕ) → Hex16 part code → ⊥) → BadBound part boundUnreadable
+  no_hex : ((code : ℕ) → Hex16 part code → ⊥) → BadBound part bound_unreadable
   -- 6: bound is FEFF or FFFE
-  mark : Hex16 part byteOrderMark → BadBound part boundMark
-  swapped : Hex16 part swappedMark → BadBound part boundMark
+  mark : Hex16 part byte_order_mark → BadBound part bound_mark
+  swapped : Hex16 part swapped_mark → BadBound part bound_mark
 
 -- ---- a line that fits nothing
 
 -- "Within a range line 4, 5 or 6 for the lower bound, 5 or 6 for the upper". "Within a category line 7, 8"
 pub data Misfit (cs : List ℕ) : ℕ → Type 0 where
   -- 4: range field has three or more parts
-  many-parts : {bounds : List ℕ} {names : List (List ℕ)} → RangeFields cs bounds names → ThreeParts bounds → Misfit cs rangeParts
+  many_parts : {bounds : List ℕ} {names : List (List ℕ)} → RangeFields cs bounds names → ThreeParts bounds → Misfit cs range_parts
   -- 5 or 6, of the lower bound; of the upper, where the lower is one
-  lower-bad : {bounds lower upper : List ℕ} {names : List (List ℕ)} {n : ℕ}
+  lower_bad : {bounds lower upper : List ℕ} {names : List (List ℕ)} {n : ℕ}
       → RangeFields cs bounds names → Parts bounds lower upper → BadBound lower n → Misfit cs n
-  upper-bad : {bounds lower upper : List ℕ} {names : List (List ℕ)} {n bound : ℕ}
+  upper_bad : {bounds lower upper : List ℕ} {names : List (List ℕ)} {n bound : ℕ}
       → RangeFields cs bounds names → Parts bounds lower upper → Bound 0 lower bound → BadBound upper n → Misfit cs n
   -- 7: category line has not four fields
-  not-four : {fields : List (List ℕ)} → CategoryFields cs fields → length fields ≢ lineFields → Misfit cs categoryFields
+  not_four : {fields : List (List ℕ)} → CategoryFields cs fields → length fields ≢ line_fields → Misfit cs category_fields
   -- 8: invoke, group or length is no u32
   no_number : {name invoke group len : List ℕ}
-      → CategoryFields cs (name ∷ invoke ∷ group ∷ len ∷ []) → NoU32 invoke ⊎ (NoU32 group ⊎ NoU32 len) → Misfit cs categoryNumber
+      → CategoryFields cs (name ∷ invoke ∷ group ∷ len ∷ []) → NoU32 invoke ⊎ (NoU32 group ⊎ NoU32 len) → Misfit cs category_number
 
 -- ---- a line that fits, and passes a limit
 
 -- a name that is not known yet, and no room for it: "12 before 13"
 pub data NoRoom (known : List (List ℕ)) (name : List ℕ) : ℕ → Type 0 where
   -- 12: category 513
-  too_many : T (not (any (same name) known)) → maxCategories < length known + 1 → NoRoom known name categoriesFull
+  too_many : T (not (any (same name) known)) → max_categories < length known + 1 → NoRoom known name categories_full
   -- 13: name bytes would pass 16,384
-  too-many-bytes : T (not (any (same name) known)) → length known + 1 ≤ maxCategories → maxNameBytes < nameBytes known + length name → NoRoom known name nameBytesFull
+  too_many_bytes : T (not (any (same name) known)) → length known + 1 ≤ max_categories → max_name_bytes < name_bytes known + length name → NoRoom known name name_bytes_full
 
 -- the names known, and behind them the new ones among others, each at its first sight
 abbrev pub known_with : List (List ℕ) → List (List ℕ) → List (List ℕ)
-known_with known names = known ++ freshAfter same known names
+known_with known names = known ++ fresh_after same known names
 
 -- "names left to right": the first for which there is no room
 pub record FirstOver (known names : List (List ℕ)) (n : ℕ) : Type 0 where
@@ -124,24 +124,24 @@ pub record FirstOver (known names : List (List ℕ)) (n : ℕ) : Type 0 where
 -- "9, 10, then names left to right". "11, 12, 13"
 pub data PastLimit (r : Reading) : Line → ℕ → Type 0 where
   -- 9: range 2,049
-  range-over : {lower upper : ℕ} {names : List (List ℕ)} → maxRanges < length r.ranges + 1 → PastLimit r (range lower upper names) rangesFull
+  range_over : {lower upper : ℕ} {names : List (List ℕ)} → max_ranges < length r.ranges + 1 → PastLimit r (range lower upper names) ranges_full
   -- 10: references would pass 8,192
-  references-over : {lower upper : ℕ} {names : List (List ℕ)}
-      → length r.ranges + 1 ≤ maxRanges → maxReferences < references r.ranges + length names
-      → PastLimit r (range lower upper names) referencesFull
+  references_over : {lower upper : ℕ} {names : List (List ℕ)}
+      → length r.ranges + 1 ≤ max_ranges → max_references < references r.ranges + length names
+      → PastLimit r (range lower upper names) references_full
   -- 12 or 13, of one of its names
-  range-name : {lower upper n : ℕ} {names : List (List ℕ)}
-      → length r.ranges + 1 ≤ maxRanges → references r.ranges + length names ≤ maxReferences
+  range_name : {lower upper n : ℕ} {names : List (List ℕ)}
+      → length r.ranges + 1 ≤ max_ranges → references r.ranges + length names ≤ max_references
       → FirstOver r.names (names_of (range lower upper names)) n → PastLimit r (range lower upper names) n
   -- 11: category line 513
-  line-over : {name : List ℕ} {invoke group : Bool} {len : ℕ} → maxCategoryLines < length r.definitions + 1 → PastLimit r (category name invoke group len) categoryLinesFull
+  line_over : {name : List ℕ} {invoke group : Bool} {len : ℕ} → max_category_lines < length r.definitions + 1 → PastLimit r (category name invoke group len) category_lines_full
   -- 12 or 13, of its name
-  category-name : {name : List ℕ} {invoke group : Bool} {len n : ℕ}
-      → length r.definitions + 1 ≤ maxCategoryLines
+  category_name_lem : {name : List ℕ} {invoke group : Bool} {len n : ℕ}
+      → length r.definitions + 1 ≤ max_category_lines
       → FirstOver r.names (names_of (category name invoke group len)) n → PastLimit r (category name invoke group len) n
 
 -- ---- a bad line
 
 pub data BadLine (r : Reading) (cs : List ℕ) (n : ℕ) : Type 0 where
   misfit : Misfit cs n → BadLine r cs n
-  past-limit : {line : Line} → LineFits cs line → PastLimit r line n → BadLine r cs n
+  past_limit : {line : Line} → LineFits cs line → PastLimit r line n → BadLine r cs n

@@ -1,8 +1,8 @@
 -- What a text of char.def says: its reading, the limits, and which texts a reading fits.
 -- Assumes nothing.
 use Rattle.std.specs.Prelude.{ℕ, ◌≤◌, ◌≡◌, Bool, not, List, [], ◌∷◌, map, T, length}
-use Rattle.paper.specs.Sizes.{maxTextBytes, maxCategories, maxNameBytes, maxCategoryLines, maxRanges, maxReferences}
-use Rattle.paper.specs.Lists.{all, empty, joined, firstSeen, position_of, same, sum, joinWith, is, without}
+use Rattle.paper.specs.Sizes.{max_text_bytes, max_categories, max_name_bytes, max_category_lines, max_ranges, max_references}
+use Rattle.paper.specs.Lists.{all, empty, joined, first_seen, position_of, same, sum, join_with, is, without}
 use Rattle.paper.specs.Text.Scalar.{utf8, is_scalar, lf}
 use Rattle.paper.specs.CharDef.Line.{Line, blank, category, range, LineFits}
 
@@ -30,59 +30,59 @@ names_of blank = []
 names_of (category name invoke group length) = utf8 name ∷ []
 names_of (range lower upper names) = map utf8 names
 
-unfoldable pub definitionsOf : Line → List Definition
-definitionsOf blank = []
-definitionsOf (category name invoke group length) = record { invoke = invoke; group = group; len = length } ∷ []
-definitionsOf (range lower upper names) = []
+unfoldable pub definitions_of : Line → List Definition
+definitions_of blank = []
+definitions_of (category name invoke group length) = record { invoke = invoke; group = group; len = length } ∷ []
+definitions_of (range lower upper names) = []
 
--- the range of a line, its names numbered by their places in `all-names`
-unfoldable pub rangesOf : List (List ℕ) → Line → List Range
+-- the range of a line, its names numbered by their places in `all_names_lem`
+unfoldable pub ranges_of : List (List ℕ) → Line → List Range
 unfolding utf8
-rangesOf all-names blank = []
-rangesOf all-names (category name invoke group length) = []
-rangesOf all-names (range lower upper names) =
-    record { lower = lower; upper = upper; categories = map (λ n. position_of same n all-names) (map utf8 names) } ∷ []
+ranges_of all_names_lem blank = []
+ranges_of all_names_lem (category name invoke group length) = []
+ranges_of all_names_lem (range lower upper names) =
+    record { lower = lower; upper = upper; categories = map (λ n. position_of same n all_names_lem) (map utf8 names) } ∷ []
 
-unfoldable pub allNames : List Line → List (List ℕ)
+unfoldable pub all_names : List Line → List (List ℕ)
 unfolding names_of
-allNames ls = firstSeen same (joined (map names_of ls))
+all_names ls = first_seen same (joined (map names_of ls))
 
 unfoldable pub reading_of : List Line → Reading
-unfolding allNames definitionsOf rangesOf
+unfolding all_names definitions_of ranges_of
 reading_of ls =
     record {
-      names = allNames ls;
-      definitions = joined (map definitionsOf ls);
-      ranges = joined (map (rangesOf (allNames ls)) ls);
+      names = all_names ls;
+      definitions = joined (map definitions_of ls);
+      ranges = joined (map (ranges_of (all_names ls)) ls);
     }
 
 -- ---- limits
 
 -- how many bytes names have in all, and how many categories ranges refer to
-unfoldable pub nameBytes : List (List ℕ) → ℕ
-nameBytes names = sum (map length names)
+unfoldable pub name_bytes : List (List ℕ) → ℕ
+name_bytes names = sum (map length names)
 
 unfoldable pub references : List Range → ℕ
 references ranges = sum (map (λ r. length r.categories) ranges)
 
 pub record Within (r : Reading) : Type 0 where
-  pub categories-fit : length r.names ≤ maxCategories
-  pub names-fit : nameBytes r.names ≤ maxNameBytes
-  pub definitions-fit : length r.definitions ≤ maxCategoryLines
-  pub ranges-fit : length r.ranges ≤ maxRanges
-  pub references-fit : references r.ranges ≤ maxReferences
+  pub categories_fit : length r.names ≤ max_categories
+  pub names_fit : name_bytes r.names ≤ max_name_bytes
+  pub definitions_fit : length r.definitions ≤ max_category_lines
+  pub ranges_fit : length r.ranges ≤ max_ranges
+  pub references_fit : references r.ranges ≤ max_references
 
 -- ---- texts
 
-abbrev pub isLF : ℕ → Bool
-isLF c = is lf c
+abbrev pub is_lf : ℕ → Bool
+is_lf c = is lf c
 
 -- lines with LF between them
-abbrev pub joinLF : List (List ℕ) → List ℕ
-joinLF ls = joinWith lf ls
+abbrev pub join_lf : List (List ℕ) → List ℕ
+join_lf ls = join_with lf ls
 
-abbrev pub noLF : List ℕ → Bool
-noLF cs = without lf cs
+abbrev pub no_lf : List ℕ → Bool
+no_lf cs = without lf cs
 
 -- line by line
 pub data EachFits : List (List ℕ) → List Line → Type 0 where
@@ -93,12 +93,12 @@ pub record Fits (bytes : List ℕ) (r : Reading) : Type 0 where
   pub chars : List ℕ
   pub texts : List (List ℕ)
   pub lines : List Line
-  pub short : length bytes ≤ maxTextBytes
+  pub short : length bytes ≤ max_text_bytes
   pub encoded : bytes ≡ utf8 chars
   pub scalars : T (all is_scalar chars)
-  pub split : chars ≡ joinLF texts
-  pub some-line : T (not (empty texts))
-  pub ended : T (all noLF texts)
+  pub split : chars ≡ join_lf texts
+  pub some_line : T (not (empty texts))
+  pub ended : T (all no_lf texts)
   pub each : EachFits texts lines
   pub says : r ≡ reading_of lines
   pub within : Within r

@@ -16,19 +16,19 @@ lowest a = cond (eqb a 0xE0) 0xA0 (cond (eqb a 0xF0) 0x90 0x80)
 unfoldable pub highest : ℕ → ℕ
 highest a = cond (eqb a 0xED) 0x9F (cond (eqb a 0xF4) 0x8F 0xBF)
 
-abbrev pub isTail : ℕ → Bool
-isTail b = between 0x80 0xBF b
+abbrev pub is_tail : ℕ → Bool
+is_tail b = between 0x80 0xBF b
 
 unfoldable pub two : ℕ → List ℕ → First
 two a [] = bad
-two a (b ∷ s) = cond (isTail b) (good (a % 32 * 64 + b % 64) 1) bad
+two a (b ∷ s) = cond (is_tail b) (good (a % 32 * 64 + b % 64) 1) bad
 
 unfoldable pub three : ℕ → List ℕ → First
 unfolding lowest highest
 three a [] = bad
 three a (b ∷ []) = bad
 three a (b ∷ c ∷ s) =
-    cond (between (lowest a) (highest a) b && isTail c) (good ((a % 16 * 64 + b % 64) * 64 + c % 64) 2) bad
+    cond (between (lowest a) (highest a) b && is_tail c) (good ((a % 16 * 64 + b % 64) * 64 + c % 64) 2) bad
 
 unfoldable pub four : ℕ → List ℕ → First
 unfolding lowest highest
@@ -36,7 +36,7 @@ four a [] = bad
 four a (b ∷ []) = bad
 four a (b ∷ c ∷ []) = bad
 four a (b ∷ c ∷ d ∷ s) =
-    cond (between (lowest a) (highest a) b && isTail c && isTail d)
+    cond (between (lowest a) (highest a) b && is_tail c && is_tail d)
     (good (((a % 8 * 64 + b % 64) * 64 + c % 64) * 64 + d % 64) 3)
     bad
 
@@ -54,13 +54,13 @@ pub data Text : Type 0 where
   broken : ℕ → Text
   chars : List ℕ → Text
 
-abbrev pub consText : ℕ → Text → Text
-consText c (broken at) = broken at
-consText c (chars cs) = chars (c ∷ cs)
+abbrev pub cons_text : ℕ → Text → Text
+cons_text c (broken at) = broken at
+cons_text c (chars cs) = chars (c ∷ cs)
 
 abbrev pub onward : ℕ → First → (ℕ → Text) → Text
 onward at bad go = broken at
-onward at (good c extra) go = consText c (go extra)
+onward at (good c extra) go = cons_text c (go extra)
 
 -- from the byte at `at`, of which `skip` and those after belong to the character before
 unfoldable pub decode_from : ℕ → ℕ → List ℕ → Text

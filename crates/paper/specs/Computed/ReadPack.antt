@@ -14,12 +14,12 @@
 --   The padding with all after it, one field: 21 where a bit is set or eight bits or more are left.
 -- Assumes nothing.
 use Rattle.std.specs.Prelude.{ℕ, zero, suc, ◌+◌, ◌*◌, Bool, true, not, cond, ◌&&◌, List, [], ◌∷◌, leb, ltb, eqb, length}
-use Rattle.paper.specs.Sizes.{maxCategories, maxNameBytes, maxCategoryLines, maxRanges, maxReferences}
-use Rattle.paper.specs.Refusals.{packVersion, packEnds, packRule, packLeftOver}
+use Rattle.paper.specs.Sizes.{max_categories, max_name_bytes, max_category_lines, max_ranges, max_references}
+use Rattle.paper.specs.Refusals.{pack_version, pack_ends, pack_rule, pack_left_over}
 use Rattle.paper.specs.Lists.{all, any, same}
 use Rattle.paper.specs.CharDef.Reading.{Definition, Range, Reading, references, Answer, accepted, refused}
-use Rattle.paper.specs.Pack.Fields.{version, versionWidth, categoriesWidth, linesWidth, rangesWidth, referencesWidth, nameLengthWidth, byteWidth, flagWidth, lengthWidth, boundWidth, countWidth, numberWidth, bits_of}
-use Rattle.paper.specs.Pack.Rules.{isBound}
+use Rattle.paper.specs.Pack.Fields.{version, version_width, categories_width, lines_width, ranges_width, references_width, name_length_width, byte_width, flag_width, length_width, bound_width, count_width, number_width, bits_of}
+use Rattle.paper.specs.Pack.Rules.{is_bound}
 use Rattle.paper.specs.Computed.Rules.{formed}
 
 infixr 20 ◌▹◌
@@ -31,22 +31,22 @@ pub data Taken (A : Type 0) : Type 0 where
   taken : A → List ℕ → Taken A
 
 -- the number that w bits spell, after `high`
-abbrev pub takeNumber : ℕ → ℕ → List ℕ → Taken ℕ
-takeNumber zero high s = taken high s
-takeNumber (suc w) high [] = short
-takeNumber (suc w) high (b ∷ s) = takeNumber w (high * 2 + b) s
+abbrev pub take_number : ℕ → ℕ → List ℕ → Taken ℕ
+take_number zero high s = taken high s
+take_number (suc w) high [] = short
+take_number (suc w) high (b ∷ s) = take_number w (high * 2 + b) s
 
-abbrev pub consTaken : ℕ → Taken (List ℕ) → Taken (List ℕ)
-consTaken b short = short
-consTaken b (taken bs s) = taken (b ∷ bs) s
+abbrev pub cons_taken : ℕ → Taken (List ℕ) → Taken (List ℕ)
+cons_taken b short = short
+cons_taken b (taken bs s) = taken (b ∷ bs) s
 
-abbrev pub afterByte : Taken ℕ → (List ℕ → Taken (List ℕ)) → Taken (List ℕ)
-afterByte short go = short
-afterByte (taken b s) go = consTaken b (go s)
+abbrev pub after_byte : Taken ℕ → (List ℕ → Taken (List ℕ)) → Taken (List ℕ)
+after_byte short go = short
+after_byte (taken b s) go = cons_taken b (go s)
 
-abbrev pub takeBytes : ℕ → List ℕ → Taken (List ℕ)
-takeBytes zero s = taken [] s
-takeBytes (suc n) s = afterByte (takeNumber byteWidth 0 s) (λ t. takeBytes n t)
+abbrev pub take_bytes : ℕ → List ℕ → Taken (List ℕ)
+take_bytes zero s = taken [] s
+take_bytes (suc n) s = after_byte (take_number byte_width 0 s) (λ t. take_bytes n t)
 
 -- ---- readers
 
@@ -59,48 +59,48 @@ pub data FieldStep (A : Type 0) : Type 0 where
 abbrev pub Reader : Type 0 → Type 0
 Reader A = ℕ → List ℕ → FieldStep A
 
-unfoldable pub afterStep : {A B : Type 0} → FieldStep A → (A → Reader B) → FieldStep B
-afterStep (broke n at) go = broke n at
-afterStep (gave a at s) go = go a at s
+unfoldable pub after_step : {A B : Type 0} → FieldStep A → (A → Reader B) → FieldStep B
+after_step (broke n at) go = broke n at
+after_step (gave a at s) go = go a at s
 
 -- one reader, and what follows it from its value
 unfoldable pub ◌▹◌ : {A B : Type 0} → Reader A → (A → Reader B) → Reader B
-unfolding afterStep
-◌▹◌ p go at s = afterStep (p at s) go
+unfolding after_step
+◌▹◌ p go at s = after_step (p at s) go
 
 unfoldable pub give : {A : Type 0} → A → Reader A
 give a at s = gave a at s
 
 unfoldable pub settle : {A : Type 0} → ℕ → ℕ → ℕ → (A → Bool) → Taken A → FieldStep A
-settle n w at ok short = broke packEnds at
+settle n w at ok short = broke pack_ends at
 settle n w at ok (taken a s) = cond (ok a) (gave a (at + w) s) (broke n at)
 
 -- a field of w bits, refused by n where it breaks its rule
-unfoldable pub fieldOr : ℕ → ℕ → (ℕ → Bool) → Reader ℕ
+unfoldable pub field_or : ℕ → ℕ → (ℕ → Bool) → Reader ℕ
 unfolding settle
-fieldOr n w ok at s = settle n w at ok (takeNumber w 0 s)
+field_or n w ok at s = settle n w at ok (take_number w 0 s)
 
 abbrev pub number : ℕ → (ℕ → Bool) → Reader ℕ
-number w ok = fieldOr packRule w ok
+number w ok = field_or pack_rule w ok
 
 abbrev pub free : ℕ → Bool
 free n = true
 
 -- n bytes as one field
-unfoldable pub bytesField : ℕ → (List ℕ → Bool) → Reader (List ℕ)
+unfoldable pub bytes_field : ℕ → (List ℕ → Bool) → Reader (List ℕ)
 unfolding settle
-bytesField n ok at s = settle packRule (byteWidth * n) at ok (takeBytes n s)
+bytes_field n ok at s = settle pack_rule (byte_width * n) at ok (take_bytes n s)
 
 -- a rule on what was read
 unfoldable pub demand : Bool → Reader (Unit {0})
-demand b at s = cond b (gave tt at s) (broke packRule at)
+demand b at s = cond b (gave tt at s) (broke pack_rule at)
 
 -- zero bits, fewer than eight, and nothing behind them
-abbrev pub isPadding : List ℕ → Bool
-isPadding s = ltb (length s) byteWidth && all (eqb 0) s
+abbrev pub is_padding : List ℕ → Bool
+is_padding s = ltb (length s) byte_width && all (eqb 0) s
 
 unfoldable pub padding : Reader (Unit {0})
-padding at s = cond (isPadding s) (gave tt at []) (broke packLeftOver at)
+padding at s = cond (is_padding s) (gave tt at []) (broke pack_left_over at)
 
 unfoldable pub many : {A : Type 0} → ℕ → Reader A → Reader (List A)
 many zero p = give []
@@ -112,48 +112,48 @@ many (suc n) p =
 -- ---- the parts of a pack
 
 -- after names of `used` bytes in all, those in `before`
-abbrev pub lengthRule : ℕ → ℕ → Bool
-lengthRule used n = ltb 0 n && leb (used + n) maxNameBytes
+abbrev pub length_rule : ℕ → ℕ → Bool
+length_rule used n = ltb 0 n && leb (used + n) max_name_bytes
 
-unfoldable pub nameRule : List (List ℕ) → List ℕ → Bool
-nameRule before n = formed n && not (any (same n) before)
+unfoldable pub name_rule : List (List ℕ) → List ℕ → Bool
+name_rule before n = formed n && not (any (same n) before)
 
-unfoldable pub readName : ℕ → List (List ℕ) → Reader (List ℕ)
-readName used before =
-    number nameLengthWidth (lengthRule used) ▹ λ n.
-    bytesField n (nameRule before)
+unfoldable pub read_name : ℕ → List (List ℕ) → Reader (List ℕ)
+read_name used before =
+    number name_length_width (length_rule used) ▹ λ n.
+    bytes_field n (name_rule before)
 
-unfoldable pub readNames : ℕ → ℕ → List (List ℕ) → Reader (List (List ℕ))
-readNames zero used before = give []
-readNames (suc k) used before =
-    readName used before ▹ λ name.
-    readNames k (used + length name) (name ∷ before) ▹ λ names.
+unfoldable pub read_names : ℕ → ℕ → List (List ℕ) → Reader (List (List ℕ))
+read_names zero used before = give []
+read_names (suc k) used before =
+    read_name used before ▹ λ name.
+    read_names k (used + length name) (name ∷ before) ▹ λ names.
     give (name ∷ names)
 
-unfoldable pub readDefinition : Reader Definition
-readDefinition =
-    number flagWidth free ▹ λ invoke.
-    number flagWidth free ▹ λ group.
-    number lengthWidth free ▹ λ len.
+unfoldable pub read_definition : Reader Definition
+read_definition =
+    number flag_width free ▹ λ invoke.
+    number flag_width free ▹ λ group.
+    number length_width free ▹ λ len.
     give (record { invoke = eqb invoke 1; group = eqb group 1; len = len })
 
 -- with `known` categories and `total` references, `used` of them so far
-abbrev pub countRule : ℕ → ℕ → ℕ → Bool
-countRule total used n = leb (used + n) total
+abbrev pub count_rule : ℕ → ℕ → ℕ → Bool
+count_rule total used n = leb (used + n) total
 
-unfoldable pub readRange : ℕ → ℕ → ℕ → Reader Range
-readRange known total used =
-    number boundWidth isBound ▹ λ lower.
-    number boundWidth isBound ▹ λ upper.
-    number countWidth (countRule total used) ▹ λ count.
-    many count (number numberWidth (λ c. ltb c known)) ▹ λ categories.
+unfoldable pub read_range : ℕ → ℕ → ℕ → Reader Range
+read_range known total used =
+    number bound_width is_bound ▹ λ lower.
+    number bound_width is_bound ▹ λ upper.
+    number count_width (count_rule total used) ▹ λ count.
+    many count (number number_width (λ c. ltb c known)) ▹ λ categories.
     give (record { lower = lower; upper = upper; categories = categories })
 
-unfoldable pub readRanges : ℕ → ℕ → ℕ → ℕ → Reader (List Range)
-readRanges zero known total used = give []
-readRanges (suc k) known total used =
-    readRange known total used ▹ λ g.
-    readRanges k known total (used + length g.categories) ▹ λ gs.
+unfoldable pub read_ranges : ℕ → ℕ → ℕ → ℕ → Reader (List Range)
+read_ranges zero known total used = give []
+read_ranges (suc k) known total used =
+    read_range known total used ▹ λ g.
+    read_ranges k known total (used + length g.categories) ▹ λ gs.
     give (g ∷ gs)
 
 abbrev pub up_to : ℕ → ℕ → Bool
@@ -161,29 +161,29 @@ up_to limit n = leb n limit
 
 unfoldable pub read_body : ℕ → ℕ → ℕ → ℕ → Reader Reading
 read_body categories lines ranges total =
-    readNames categories 0 [] ▹ λ names.
-    many lines readDefinition ▹ λ definitions.
-    readRanges ranges categories total 0 ▹ λ gs.
+    read_names categories 0 [] ▹ λ names.
+    many lines read_definition ▹ λ definitions.
+    read_ranges ranges categories total 0 ▹ λ gs.
     demand (eqb (references gs) total) ▹ λ whole.
     give (record { names = names; definitions = definitions; ranges = gs })
 
 -- what stands behind the version
-unfoldable pub readCounted : Reader Reading
-readCounted =
-    number categoriesWidth (up_to maxCategories) ▹ λ categories.
-    number linesWidth (up_to maxCategoryLines) ▹ λ lines.
-    number rangesWidth (up_to maxRanges) ▹ λ ranges.
-    number referencesWidth (up_to maxReferences) ▹ λ total.
+unfoldable pub read_counted : Reader Reading
+read_counted =
+    number categories_width (up_to max_categories) ▹ λ categories.
+    number lines_width (up_to max_category_lines) ▹ λ lines.
+    number ranges_width (up_to max_ranges) ▹ λ ranges.
+    number references_width (up_to max_references) ▹ λ total.
     read_body categories lines ranges total
 
-unfoldable pub readFields : Reader Reading
-readFields =
-    fieldOr packVersion versionWidth (eqb version) ▹ λ one.
-    readCounted
+unfoldable pub read_fields : Reader Reading
+read_fields =
+    field_or pack_version version_width (eqb version) ▹ λ one.
+    read_counted
 
 unfoldable pub read_all : Reader Reading
 read_all =
-    readFields ▹ λ r.
+    read_fields ▹ λ r.
     padding ▹ λ end.
     give r
 
@@ -191,6 +191,6 @@ abbrev pub answer : FieldStep Reading → Answer
 answer (gave r at s) = accepted r
 answer (broke n at) = refused n at
 
-unfoldable pub readPack : List ℕ → Answer
-unfolding read_all readFields readCounted read_body readNames readName nameRule readDefinition readRanges readRange many padding demand bytesField fieldOr give ◌▹◌ formed isBound references
-readPack bytes = answer (read_all 0 (bits_of bytes))
+unfoldable pub read_pack : List ℕ → Answer
+unfolding read_all read_fields read_counted read_body read_names read_name name_rule read_definition read_ranges read_range many padding demand bytes_field field_or give ◌▹◌ formed is_bound references
+read_pack bytes = answer (read_all 0 (bits_of bytes))

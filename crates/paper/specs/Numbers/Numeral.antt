@@ -1,9 +1,9 @@
 -- Numbers as Rust's library reads them: an optional sign, digits of a base, a limit; and what unk.def keeps of them in 16 bits.
 -- Assumes nothing.
 use Rattle.std.specs.Prelude.{ℕ, ◌+◌, ◌-◌, ◌*◌, ◌<◌, ◌≤◌, ◌%◌, ◌≡◌, Bool, true, false, cond, List, [], ◌∷◌, ◌++◌, T, ltb, eqb}
-use Rattle.paper.specs.Sizes.{maxU32, maxI32, lowI32}
+use Rattle.paper.specs.Sizes.{max_u32, max_i32, low_i32}
 use Rattle.paper.specs.Lists.{full}
-use Rattle.paper.specs.Text.Scalar.{between, plusSign, minusSign, digit0}
+use Rattle.paper.specs.Text.Scalar.{between, plus_sign, minus_sign, digit0}
 
 -- ---- digits
 
@@ -16,43 +16,43 @@ hexadecimal = 16
 abbrev pub digit9 : ℕ
 digit9 = 0x39
 
-abbrev pub upperA : ℕ
-upperA = 0x41
+abbrev pub upper_a : ℕ
+upper_a = 0x41
 
-abbrev pub upperF : ℕ
-upperF = 0x46
+abbrev pub upper_f : ℕ
+upper_f = 0x46
 
-abbrev pub lowerA : ℕ
-lowerA = 0x61
+abbrev pub lower_a : ℕ
+lower_a = 0x61
 
-abbrev pub lowerF : ℕ
-lowerF = 0x66
+abbrev pub lower_f : ℕ
+lower_f = 0x66
 
 -- no digit of any base up to 16
-abbrev pub noDigit : ℕ
-noDigit = 16
+abbrev pub no_digit : ℕ
+no_digit = 16
 
 -- the value of a digit, "of either case": A follows the decimal digits
-unfoldable pub digitOf : ℕ → ℕ
-digitOf c =
+unfoldable pub digit_of : ℕ → ℕ
+digit_of c =
     cond (between digit0 digit9 c) (c - digit0)
-    (cond (between upperA upperF c) (c - (upperA - decimal))
-    (cond (between lowerA lowerF c) (c - (lowerA - decimal)) noDigit))
+    (cond (between upper_a upper_f c) (c - (upper_a - decimal))
+    (cond (between lower_a lower_f c) (c - (lower_a - decimal)) no_digit))
 
-unfoldable pub isDigit : ℕ → ℕ → Bool
-unfolding digitOf
-isDigit base c = ltb (digitOf c) base
+unfoldable pub is_digit : ℕ → ℕ → Bool
+unfolding digit_of
+is_digit base c = ltb (digit_of c) base
 
 -- the number that digits spell, after `high`
-unfoldable pub valueAfter : ℕ → ℕ → List ℕ → ℕ
-unfolding digitOf
-valueAfter base high [] = high
-valueAfter base high (d ∷ ds) = valueAfter base (high * base + digitOf d) ds
+unfoldable pub value_after : ℕ → ℕ → List ℕ → ℕ
+unfolding digit_of
+value_after base high [] = high
+value_after base high (d ∷ ds) = value_after base (high * base + digit_of d) ds
 
 -- nothing, or `+`
 abbrev pub plus : List ℕ → Bool
 plus [] = true
-plus (c ∷ []) = eqb c plusSign
+plus (c ∷ []) = eqb c plus_sign
 plus (c ∷ d ∷ cs) = false
 
 -- ---- numerals
@@ -63,14 +63,14 @@ pub record Numeral (base limit : ℕ) (cs : List ℕ) (n : ℕ) : Type 0 where
   pub digits : List ℕ
   pub whole : cs ≡ sign ++ digits
   pub signed : T (plus sign)
-  pub spelled : T (full (isDigit base) digits)
-  pub value : n ≡ valueAfter base 0 digits
+  pub spelled : T (full (is_digit base) digits)
+  pub value : n ≡ value_after base 0 digits
   pub fits : n ≤ limit
 
 -- the same without a sign
 pub record Spelled (base limit : ℕ) (ds : List ℕ) (n : ℕ) : Type 0 where
-  pub digits : T (full (isDigit base) ds)
-  pub value : n ≡ valueAfter base 0 ds
+  pub digits : T (full (is_digit base) ds)
+  pub value : n ≡ value_after base 0 ds
   pub fits : n ≤ limit
 
 -- ---- signs
@@ -83,7 +83,7 @@ pub data Integer : Type 0 where
 -- `-` and one or more digits
 pub record Negative (base limit : ℕ) (cs : List ℕ) (n : ℕ) : Type 0 where
   pub digits : List ℕ
-  pub whole : cs ≡ minusSign ∷ digits
+  pub whole : cs ≡ minus_sign ∷ digits
   pub is_spelled : Spelled base limit digits n
 
 -- "sign allowed": up to `top` with `+` or no sign, and down to `low` below 0 with `-`
@@ -95,10 +95,10 @@ SignedNumeral base top low cs (neg n) = Negative base low cs n
 
 -- "the u32 and i32 reading of Rust's library"
 abbrev pub U32 : List ℕ → ℕ → Type 0
-U32 cs n = Numeral decimal maxU32 cs n
+U32 cs n = Numeral decimal max_u32 cs n
 
 abbrev pub I32 : List ℕ → Integer → Type 0
-I32 cs i = SignedNumeral decimal maxI32 lowI32 cs i
+I32 cs i = SignedNumeral decimal max_i32 low_i32 cs i
 
 -- the characters spell none
 abbrev pub NoU32 : List ℕ → Type 0

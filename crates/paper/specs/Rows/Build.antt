@@ -2,72 +2,72 @@
 -- Assumes nothing.
 use Rattle.std.specs.Prelude.{ℕ, Bool, cond, ◌||◌, map, ◌≡◌, ltb, length}
 use Rattle.std.proofs.Math.Option.{Option, none, some}
-use Rattle.paper.specs.Sizes.{maxFlatRow, bmpSize}
-use Rattle.paper.specs.Refusals.{flatRowLong, tableRoomShort, packRoomShort, tablesApart}
-use Rattle.paper.specs.Lists.{any, sum, offsetsFrom}
+use Rattle.paper.specs.Sizes.{max_flat_row, bmp_size}
+use Rattle.paper.specs.Refusals.{flat_row_long, table_room_short, pack_room_short, tables_apart}
+use Rattle.paper.specs.Lists.{any, sum, offsets_from}
 use Rattle.paper.specs.CharDef.Reading.{Reading}
 use Rattle.paper.specs.Rows.Covering.{boundaries, rows}
-use Rattle.paper.specs.Rows.Flat.{flatIndex, flatPool}
-use Rattle.paper.specs.Pack.Fields.{packBytes}
+use Rattle.paper.specs.Rows.Flat.{flat_index, flat_pool}
+use Rattle.paper.specs.Pack.Fields.{pack_bytes}
 
 -- ---- the exact needs
 
 -- boundaries, and as many row starts and row lengths
-unfoldable pub rowsNeeded : Reading → ℕ
+unfoldable pub rows_needed : Reading → ℕ
 unfolding boundaries
-rowsNeeded r = length (boundaries r)
+rows_needed r = length (boundaries r)
 
 -- pool places, of the row pool and of the flat pool
-unfoldable pub placesNeeded : Reading → ℕ
+unfoldable pub places_needed : Reading → ℕ
 unfolding rows
-placesNeeded r = sum (map length (rows r))
+places_needed r = sum (map length (rows r))
 
 -- 16: "a row has over 255 categories"
-unfoldable pub rowOverlong : Reading → Bool
+unfoldable pub row_overlong : Reading → Bool
 unfolding rows
-rowOverlong r = any (λ w. ltb maxFlatRow (length w)) (rows r)
+row_overlong r = any (λ w. ltb max_flat_row (length w)) (rows r)
 
 -- 17: "room for rows or flat table below the exact need"
-unfoldable pub rowRoomShort : Reading → (boundaries starts lengths pool : ℕ) → Bool
-unfolding rowsNeeded placesNeeded
-rowRoomShort r b s l p = ltb b (rowsNeeded r) || ltb s (rowsNeeded r) || ltb l (rowsNeeded r) || ltb p (placesNeeded r)
+unfoldable pub row_room_short : Reading → (boundaries starts lengths pool : ℕ) → Bool
+unfolding rows_needed places_needed
+row_room_short r b s l p = ltb b (rows_needed r) || ltb s (rows_needed r) || ltb l (rows_needed r) || ltb p (places_needed r)
 
-unfoldable pub flatRoomShort : Reading → (index pool : ℕ) → Bool
-unfolding placesNeeded
-flatRoomShort r i p = ltb i bmpSize || ltb p (placesNeeded r)
+unfoldable pub flat_room_short : Reading → (index pool : ℕ) → Bool
+unfolding places_needed
+flat_room_short r i p = ltb i bmp_size || ltb p (places_needed r)
 
 -- 22: "room for a written pack below its length"
-unfoldable pub writeRoomShort : Reading → ℕ → Bool
-unfolding packBytes
-writeRoomShort r n = ltb n (length (packBytes r))
+unfoldable pub write_room_short : Reading → ℕ → Bool
+unfolding pack_bytes
+write_room_short r n = ltb n (length (pack_bytes r))
 
 -- ---- the answers, over the reading that was handed in, if the tables hold together
 
 pub data Built : Type 0 where
   built : Built
-  refusedBy : ℕ → Built
+  refused_by : ℕ → Built
 
-unfoldable pub rowsBuilt : Option Reading → (boundaries starts lengths pool : ℕ) → Built
-unfolding rowRoomShort
-rowsBuilt none b s l p = refusedBy tablesApart
-rowsBuilt (some r) b s l p = cond (rowRoomShort r b s l p) (refusedBy tableRoomShort) built
+unfoldable pub rows_built : Option Reading → (boundaries starts lengths pool : ℕ) → Built
+unfolding row_room_short
+rows_built none b s l p = refused_by tables_apart
+rows_built (some r) b s l p = cond (row_room_short r b s l p) (refused_by table_room_short) built
 
-unfoldable pub flatBuilt : Option Reading → (index pool : ℕ) → Built
-unfolding rowOverlong flatRoomShort
-flatBuilt none i p = refusedBy tablesApart
-flatBuilt (some r) i p = cond (rowOverlong r) (refusedBy flatRowLong) (cond (flatRoomShort r i p) (refusedBy tableRoomShort) built)
+unfoldable pub flat_built : Option Reading → (index pool : ℕ) → Built
+unfolding row_overlong flat_room_short
+flat_built none i p = refused_by tables_apart
+flat_built (some r) i p = cond (row_overlong r) (refused_by flat_row_long) (cond (flat_room_short r i p) (refused_by table_room_short) built)
 
-unfoldable pub packWritten : Option Reading → ℕ → Built
-unfolding writeRoomShort
-packWritten none n = refusedBy tablesApart
-packWritten (some r) n = cond (writeRoomShort r n) (refusedBy packRoomShort) built
+unfoldable pub pack_written : Option Reading → ℕ → Built
+unfolding write_room_short
+pack_written none n = refused_by tables_apart
+pack_written (some r) n = cond (write_room_short r n) (refused_by pack_room_short) built
 
 -- ---- what is filled, besides boundaries, pools and index
 
 -- the exact needs are the lengths of what is filled
 pub record ExactNeeds (r : Reading) : Type 0 where
-  pub of-boundaries : rowsNeeded r ≡ length (boundaries r)
-  pub of-starts : rowsNeeded r ≡ length (offsetsFrom 0 (rows r))
-  pub of-lengths : rowsNeeded r ≡ length (map length (rows r))
-  pub of-pool : placesNeeded r ≡ length (flatPool r)
-  pub of-index : bmpSize ≡ length (flatIndex r)
+  pub of_boundaries : rows_needed r ≡ length (boundaries r)
+  pub of_starts : rows_needed r ≡ length (offsets_from 0 (rows r))
+  pub of_lengths : rows_needed r ≡ length (map length (rows r))
+  pub of_pool : places_needed r ≡ length (flat_pool r)
+  pub of_index : bmp_size ≡ length (flat_index r)

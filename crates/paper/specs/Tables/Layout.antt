@@ -2,10 +2,10 @@
 -- stand in their stores one behind another from 0, in order".
 -- Assumes nothing.
 use Rattle.std.specs.Prelude.{ℕ, zero, suc, ◌+◌, ◌*◌, ◌≤◌, List, [], ◌∷◌, ◌++◌, map, eqb, length, take, drop, get_or}
-use Rattle.paper.specs.Sizes.{maxCategories, maxNameBytes, maxCategoryLines, maxRanges, maxReferences}
+use Rattle.paper.specs.Sizes.{max_categories, max_name_bytes, max_category_lines, max_ranges, max_references}
 use Rattle.paper.specs.Lists.{joined}
-use Rattle.paper.specs.Numbers.Bytes.{le, u16Size, u32Size}
-use Rattle.paper.specs.CharDef.Reading.{Definition, Range, Reading, nameBytes, references}
+use Rattle.paper.specs.Numbers.Bytes.{le, u16_size, u32_size}
+use Rattle.paper.specs.CharDef.Reading.{Definition, Range, Reading, name_bytes, references}
 use Rattle.paper.specs.Pack.Fields.{flag}
 use Rattle.paper.specs.Tables.Lent.{num, padded}
 use Rattle.paper.specs.declared.Counts.{Counts}
@@ -28,66 +28,66 @@ pub record RangeSlot : Type 0 where
   pub count : ℕ
 
 -- the bytes of an entry: a name's start and length; a definition's length and flags; a range's bounds, first reference and count
-abbrev pub nameSlotSize : ℕ
-nameSlotSize = 4
+abbrev pub name_slot_size : ℕ
+name_slot_size = 4
 
-abbrev pub definitionSize : ℕ
-definitionSize = 6
+abbrev pub definition_size : ℕ
+definition_size = 6
 
-abbrev pub rangeSlotSize : ℕ
-rangeSlotSize = 8
+abbrev pub range_slot_size : ℕ
+range_slot_size = 8
 
-abbrev pub referenceSize : ℕ
-referenceSize = 2
+abbrev pub reference_size : ℕ
+reference_size = 2
 
 -- where its fields stand in it, behind the first
-abbrev pub nameLenAt : ℕ
-nameLenAt = 2
+abbrev pub name_len_at : ℕ
+name_len_at = 2
 
-abbrev pub invokeAt : ℕ
-invokeAt = 4
+abbrev pub invoke_at : ℕ
+invoke_at = 4
 
-abbrev pub groupAt : ℕ
-groupAt = 5
+abbrev pub group_at : ℕ
+group_at = 5
 
-abbrev pub upperAt : ℕ
-upperAt = 2
+abbrev pub upper_at : ℕ
+upper_at = 2
 
 abbrev pub first_at : ℕ
 first_at = 4
 
-abbrev pub countAt : ℕ
-countAt = 6
+abbrev pub count_at : ℕ
+count_at = 6
 
-abbrev pub nameSlotBytes : NameSlot → List ℕ
-nameSlotBytes p = le u16Size p.start ++ le u16Size p.len
+abbrev pub name_slot_bytes : NameSlot → List ℕ
+name_slot_bytes p = le u16_size p.start ++ le u16_size p.len
 
-abbrev pub definitionBytes : Definition → List ℕ
-definitionBytes d = le u32Size d.len ++ (flag d.invoke ∷ flag d.group ∷ [])
+abbrev pub definition_bytes : Definition → List ℕ
+definition_bytes d = le u32_size d.len ++ (flag d.invoke ∷ flag d.group ∷ [])
 
-abbrev pub slotBytes : RangeSlot → List ℕ
-slotBytes r = le u16Size r.lower ++ (le u16Size r.upper ++ (le u16Size r.first ++ le u16Size r.count))
+abbrev pub slot_bytes : RangeSlot → List ℕ
+slot_bytes r = le u16_size r.lower ++ (le u16_size r.upper ++ (le u16_size r.first ++ le u16_size r.count))
 
-abbrev pub nameSlotOf : List ℕ → NameSlot
-nameSlotOf p = record { start = num u16Size 0 p; len = num u16Size nameLenAt p }
+abbrev pub name_slot_of : List ℕ → NameSlot
+name_slot_of p = record { start = num u16_size 0 p; len = num u16_size name_len_at p }
 
-abbrev pub definitionOf : List ℕ → Definition
-definitionOf p = record { invoke = eqb (get_or p invokeAt 0) 1; group = eqb (get_or p groupAt 0) 1; len = num u32Size 0 p }
+abbrev pub definition_of : List ℕ → Definition
+definition_of p = record { invoke = eqb (get_or p invoke_at 0) 1; group = eqb (get_or p group_at 0) 1; len = num u32_size 0 p }
 
 abbrev pub slot_of : List ℕ → RangeSlot
-slot_of p = record { lower = num u16Size 0 p; upper = num u16Size upperAt p; first = num u16Size first_at p; count = num u16Size countAt p }
+slot_of p = record { lower = num u16_size 0 p; upper = num u16_size upper_at p; first = num u16_size first_at p; count = num u16_size count_at p }
 
 -- ---- one behind another
 
 -- nameSlots of names with these lengths
-unfoldable pub nameSlots : ℕ → List ℕ → List NameSlot
-nameSlots at [] = []
-nameSlots at (n ∷ ns) = record { start = at; len = n } ∷ nameSlots (at + n) ns
+unfoldable pub name_slots : ℕ → List ℕ → List NameSlot
+name_slots at [] = []
+name_slots at (n ∷ ns) = record { start = at; len = n } ∷ name_slots (at + n) ns
 
-unfoldable pub rangeSlots : ℕ → List Range → List RangeSlot
-rangeSlots at [] = []
-rangeSlots at (g ∷ gs) =
-    record { lower = g.lower; upper = g.upper; first = at; count = length g.categories } ∷ rangeSlots (at + length g.categories) gs
+unfoldable pub range_slots : ℕ → List Range → List RangeSlot
+range_slots at [] = []
+range_slots at (g ∷ gs) =
+    record { lower = g.lower; upper = g.upper; first = at; count = length g.categories } ∷ range_slots (at + length g.categories) gs
 
 -- parts of these lengths
 unfoldable pub split : List ℕ → List ℕ → List (List ℕ)
@@ -108,33 +108,33 @@ pub record Tables : Type 0 where
   pub ranges : List ℕ
   pub references : List ℕ
 
-unfoldable pub countsOf : Reading → Counts
-countsOf r =
+unfoldable pub counts_of : Reading → Counts
+counts_of r =
     record {
       categories = length r.names;
       definitions = length r.definitions;
       ranges = length r.ranges;
       references = references r.ranges;
-      bytes = nameBytes r.names;
+      bytes = name_bytes r.names;
     }
 
-abbrev pub rangeTable : List Range → List ℕ
-rangeTable gs = joined (map slotBytes (rangeSlots 0 gs))
+abbrev pub range_table : List Range → List ℕ
+range_table gs = joined (map slot_bytes (range_slots 0 gs))
 
-abbrev pub numbersOf : List Range → List ℕ
-numbersOf gs = joined (map (λ g. g.categories) gs)
+abbrev pub numbers_of : List Range → List ℕ
+numbers_of gs = joined (map (λ g. g.categories) gs)
 
-abbrev pub referenceTable : List Range → List ℕ
-referenceTable gs = joined (map (le referenceSize) (numbersOf gs))
+abbrev pub reference_table : List Range → List ℕ
+reference_table gs = joined (map (le reference_size) (numbers_of gs))
 
 unfoldable pub layout : Reading → Tables
 layout r =
     record {
       names = joined r.names;
-      categories = joined (map nameSlotBytes (nameSlots 0 (map length r.names)));
-      definitions = joined (map definitionBytes r.definitions);
-      ranges = rangeTable r.ranges;
-      references = referenceTable r.ranges;
+      categories = joined (map name_slot_bytes (name_slots 0 (map length r.names)));
+      definitions = joined (map definition_bytes r.definitions);
+      ranges = range_table r.ranges;
+      references = reference_table r.ranges;
     }
 
 -- the parts of tables that counts name, and tables with more behind them
@@ -142,10 +142,10 @@ unfoldable pub used : Counts → Tables → Tables
 used n t =
     record {
       names = take n.bytes t.names;
-      categories = take (nameSlotSize * n.categories) t.categories;
-      definitions = take (definitionSize * n.definitions) t.definitions;
-      ranges = take (rangeSlotSize * n.ranges) t.ranges;
-      references = take (referenceSize * n.references) t.references;
+      categories = take (name_slot_size * n.categories) t.categories;
+      definitions = take (definition_size * n.definitions) t.definitions;
+      ranges = take (range_slot_size * n.ranges) t.ranges;
+      references = take (reference_size * n.references) t.references;
     }
 
 unfoldable pub behind : Tables → Tables → Tables
@@ -161,20 +161,20 @@ behind t x =
 -- ---- room
 
 -- with zero bytes up to the sizes
-unfoldable pub inRoom : Tables → Tables
-inRoom t =
+unfoldable pub in_room : Tables → Tables
+in_room t =
     record {
-      names = padded maxNameBytes t.names;
-      categories = padded (nameSlotSize * maxCategories) t.categories;
-      definitions = padded (definitionSize * maxCategoryLines) t.definitions;
-      ranges = padded (rangeSlotSize * maxRanges) t.ranges;
-      references = padded (referenceSize * maxReferences) t.references;
+      names = padded max_name_bytes t.names;
+      categories = padded (name_slot_size * max_categories) t.categories;
+      definitions = padded (definition_size * max_category_lines) t.definitions;
+      ranges = padded (range_slot_size * max_ranges) t.ranges;
+      references = padded (reference_size * max_references) t.references;
     }
 
 -- tables that the room is enough for
 pub record FitsRoom (t : Tables) : Type 0 where
-  pub names : length t.names ≤ maxNameBytes
-  pub categories : length t.categories ≤ nameSlotSize * maxCategories
-  pub definitions : length t.definitions ≤ definitionSize * maxCategoryLines
-  pub ranges : length t.ranges ≤ rangeSlotSize * maxRanges
-  pub references : length t.references ≤ referenceSize * maxReferences
+  pub names : length t.names ≤ max_name_bytes
+  pub categories : length t.categories ≤ name_slot_size * max_categories
+  pub definitions : length t.definitions ≤ definition_size * max_category_lines
+  pub ranges : length t.ranges ≤ range_slot_size * max_ranges
+  pub references : length t.references ≤ reference_size * max_references

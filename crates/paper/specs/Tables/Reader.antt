@@ -2,11 +2,11 @@
 -- refusals too. Both follow from the paper's answer to what is read and from what was lent.
 -- Assumes nothing.
 use Rattle.std.specs.Prelude.{ℕ, ◌*◌, ◌≡◌, Bool, cond, ◌&&◌, ◌||◌, leb, length, drop}
-use Rattle.paper.specs.Sizes.{maxCategories, maxNameBytes, maxCategoryLines, maxRanges, maxReferences}
-use Rattle.paper.specs.Refusals.{roomShort, rangeParts, nameBytesFull, packVersion, packLeftOver, unkFields, unkEntriesFull}
+use Rattle.paper.specs.Sizes.{max_categories, max_name_bytes, max_category_lines, max_ranges, max_references}
+use Rattle.paper.specs.Refusals.{room_short, range_parts, name_bytes_full, pack_version, pack_left_over, unk_fields, unk_entries_full}
 use Rattle.paper.specs.CharDef.Reading.{Answer, accepted, refused}
 use Rattle.paper.specs.Tables.Lent.{zeroed}
-use Rattle.paper.specs.Tables.Layout.{Tables, layout, inRoom, behind, countsOf, nameSlotSize, definitionSize, rangeSlotSize, referenceSize}
+use Rattle.paper.specs.Tables.Layout.{Tables, layout, in_room, behind, counts_of, name_slot_size, definition_size, range_slot_size, reference_size}
 use Rattle.paper.specs.declared.Outcome.{Outcome}
 use Rattle.paper.specs.declared.Outcome.TheVariants.{Accepted, Refused}
 
@@ -15,20 +15,20 @@ use Rattle.paper.specs.declared.Outcome.TheVariants.{Accepted, Refused}
 -- "Readers ask for room of these full sizes": the lengths in bytes of the five tables are no less
 unfoldable pub room_for : (names categories definitions ranges references : ℕ) → Bool
 room_for names categories definitions ranges references =
-    leb maxNameBytes names
-    && (leb (nameSlotSize * maxCategories) categories
-    && (leb (definitionSize * maxCategoryLines) definitions && (leb (rangeSlotSize * maxRanges) ranges && leb (referenceSize * maxReferences) references)))
+    leb max_name_bytes names
+    && (leb (name_slot_size * max_categories) categories
+    && (leb (definition_size * max_category_lines) definitions && (leb (range_slot_size * max_ranges) ranges && leb (reference_size * max_references) references)))
 
-abbrev pub hasRoom : Tables → Bool
-hasRoom t = room_for (length t.names) (length t.categories) (length t.definitions) (length t.ranges) (length t.references)
+abbrev pub has_room : Tables → Bool
+has_room t = room_for (length t.names) (length t.categories) (length t.definitions) (length t.ranges) (length t.references)
 
 -- "Order: 1" before all that a reader says of what it reads
-unfoldable pub inLent : Tables → Answer → Answer
-inLent lent a = cond (hasRoom lent) a (refused roomShort 0)
+unfoldable pub in_lent : Tables → Answer → Answer
+in_lent lent a = cond (has_room lent) a (refused room_short 0)
 
 -- the case of the enum for each answer of the paper: accepted with the counts of the reading's lists, refused with number and place
 abbrev pub given : Answer → Outcome
-given (accepted r) = Accepted (countsOf r)
+given (accepted r) = Accepted (counts_of r)
 given (refused number place) = Refused (record { number = number; place = place })
 
 -- ---- lent memory afterwards
@@ -36,38 +36,38 @@ given (refused number place) = Refused (record { number = number; place = place 
 -- a refusal "leaves lent memory unchanged, except that 4 to 13, 18 to 21 and 23 to 25 leave the output room zero up to the stated sizes"
 unfoldable pub clears : ℕ → Bool
 clears n =
-    (leb rangeParts n && leb n nameBytesFull) || ((leb packVersion n && leb n packLeftOver) || (leb unkFields n && leb n unkEntriesFull))
+    (leb range_parts n && leb n name_bytes_full) || ((leb pack_version n && leb n pack_left_over) || (leb unk_fields n && leb n unk_entries_full))
 
 -- what lies past the sizes
 unfoldable pub past : Tables → Tables
 past t =
     record {
-      names = drop maxNameBytes t.names;
-      categories = drop (nameSlotSize * maxCategories) t.categories;
-      definitions = drop (definitionSize * maxCategoryLines) t.definitions;
-      ranges = drop (rangeSlotSize * maxRanges) t.ranges;
-      references = drop (referenceSize * maxReferences) t.references;
+      names = drop max_name_bytes t.names;
+      categories = drop (name_slot_size * max_categories) t.categories;
+      definitions = drop (definition_size * max_category_lines) t.definitions;
+      ranges = drop (range_slot_size * max_ranges) t.ranges;
+      references = drop (reference_size * max_references) t.references;
     }
 
 -- zero up to the sizes
 unfoldable pub cleared : Tables → Tables
 cleared t =
     record {
-      names = zeroed maxNameBytes t.names;
-      categories = zeroed (nameSlotSize * maxCategories) t.categories;
-      definitions = zeroed (definitionSize * maxCategoryLines) t.definitions;
-      ranges = zeroed (rangeSlotSize * maxRanges) t.ranges;
-      references = zeroed (referenceSize * maxReferences) t.references;
+      names = zeroed max_name_bytes t.names;
+      categories = zeroed (name_slot_size * max_categories) t.categories;
+      definitions = zeroed (definition_size * max_category_lines) t.definitions;
+      ranges = zeroed (range_slot_size * max_ranges) t.ranges;
+      references = zeroed (reference_size * max_references) t.references;
     }
 
 -- acceptance leaves the reading's tables, "unused places .. zero", and "memory past the sizes is untouched"
 unfoldable pub leaves : Answer → Tables → Tables
 unfolding clears
-leaves (accepted r) t = behind (inRoom (layout r)) (past t)
+leaves (accepted r) t = behind (in_room (layout r)) (past t)
 leaves (refused number place) t = cond (clears number) (cleared t) t
 
 -- ---- both together, where the paper's answer is a
 
 pub record Reads (a : Answer) (lent after : Tables) (r : Outcome) : Type 0 where
-  pub answer : r ≡ given (inLent lent a)
-  pub memory : after ≡ leaves (inLent lent a) lent
+  pub answer : r ≡ given (in_lent lent a)
+  pub memory : after ≡ leaves (in_lent lent a) lent

@@ -6,14 +6,14 @@ use borrow.Author.Tests.{eq-eqb, ne_eqb}
 use Rattle.put_parts.proofs.flag_at.Statement.{statement}
 use Rattle.put_parts.proofs.flag_at.Tie as tie
 
-shared-slice-read-if1 : tie.Need-shared-slice-read-if1
-shared-slice-read-if1 c = search rules
+shared_slice_read_if1 : tie.Need-shared-slice-read-if1
+shared_slice_read_if1 c = search rules
 
 returns : tie.Need-returns
 returns c = sym (ap flag (eq-eqb _ 1 c.if1.true))
 
-returns-2 : tie.Need-returns-2
-returns-2 c = sym (ap flag (ne_eqb _ 1 c.if1.false))
+returns_2 : tie.Need-returns-2
+returns_2 c = sym (ap flag (ne_eqb _ 1 c.if1.false))
 
-pub flag-at-spec : {M : Type 1} → statement M
-flag-at-spec = tie.close (tie.spec shared-slice-read-if1 returns returns-2)
+pub flag_at_spec : {M : Type 1} → statement M
+flag_at_spec = tie.close (tie.spec shared_slice_read_if1 returns returns_2)

@@ -4,59 +4,59 @@ use native.Mathlib.Omega.{arith}
 use mathlib.Core.Path.{◌≡◌, sym}
 use mathlib.Core.List.{map}
 use Rattle.paper.specs.Lists.{joined}
-use Rattle.paper.specs.Pack.Fields.{definitionWidth, definitionFields}
-use Rattle.paper.specs.Tables.Layout.{definitionSize, definitionOf, pieces}
+use Rattle.paper.specs.Pack.Fields.{definition_width, definition_fields}
+use Rattle.paper.specs.Tables.Layout.{definition_size, definition_of, pieces}
 use Rattle.put_field.specs.Writer.{Puts}
-use Rattle.put_field.proofs.Writing.{puts-nothing, puts-both, puts-are}
-use Rattle.put_parts.proofs.Definitions.{joined-more}
+use Rattle.put_field.proofs.Writing.{puts_nothing, puts_both, puts_are}
+use Rattle.put_parts.proofs.Definitions.{joined_more}
 use Rattle.put_parts.proofs.put_definitions.Statement.{statement}
 use Rattle.put_parts.proofs.put_definitions.Tie as tie
 
-abbrev invariant-loop : tie.invariant-loop
-invariant-loop out₀ definitions n w₀ i₀ out w i =
-    (i ≤ n) × Puts out₀ w₀ (joined (map definitionFields (map definitionOf (pieces definitionSize i definitions)))) (definitionWidth * i) out w
+abbrev invariant_loop : tie.invariant-loop
+invariant_loop out₀ definitions n w₀ i₀ out w i =
+    (i ≤ n) × Puts out₀ w₀ (joined (map definition_fields (map definition_of (pieces definition_size i definitions)))) (definition_width * i) out w
 
-abbrev decreases-loop : tie.decreases-loop
-decreases-loop out₀ definitions n w₀ i₀ out w i = n - i
+abbrev decreases_loop : tie.decreases-loop
+decreases_loop out₀ definitions n w₀ i₀ out w i = n - i
 
-loop-holds : tie.Need-loop-init invariant-loop decreases-loop
+loop_holds : tie.Need-loop-init invariant_loop decreases_loop
 unfolding pieces
-loop-holds c = (omega arith, puts-nothing _ _ _ c.before.before.requires.1)
+loop_holds c = (omega arith, puts_nothing _ _ _ c.before.before.requires.1)
 
-put-definition-requires : tie.Need-put-definition-requires invariant-loop decreases-loop
-put-definition-requires c κs = (omega arith, record { few = omega arith; room = omega arith })
+put_definition_requires : tie.Need-put-definition-requires invariant_loop decreases_loop
+put_definition_requires c κs = (omega arith, record { few = omega arith; room = omega arith })
 
-add-i : tie.Need-overflow-add-i invariant-loop decreases-loop
-add-i c = omega arith
+add_i : tie.Need-overflow-add-i invariant_loop decreases_loop
+add_i c = omega arith
 
-loop-less : tie.Need-loop-smaller invariant-loop decreases-loop
-loop-less c = omega arith
+loop_less : tie.Need-loop-smaller invariant_loop decreases_loop
+loop_less c = omega arith
 
-loop-again : tie.Need-loop-preserved invariant-loop decreases-loop
-loop-again c = (
+loop_again : tie.Need-loop-preserved invariant_loop decreases_loop
+loop_again c = (
   omega arith,
-  puts-are (puts-both c.before.before.before.before.before.loop.invariant.1
+  puts_are (puts_both c.before.before.before.before.before.loop.invariant.1
       c.before.before.put-definition.ensures)
-      (sym (joined-more definitionFields definitionOf definitionSize _ _))
+      (sym (joined_more definition_fields definition_of definition_size _ _))
       (omega arith),
 )
 
-same_length : tie.Need-same-length invariant-loop decreases-loop
+same_length : tie.Need-same-length invariant_loop decreases_loop
 same_length c = c.before.loop.invariant.1.same_length
 
-returns : tie.Need-returns invariant-loop decreases-loop
+returns : tie.Need-returns invariant_loop decreases_loop
 returns c = let e : c.before.loop.i ≡ c.before.before.before.before.args.n = omega arith in rw e at c.before.loop.invariant.1
 
-pub put-definitions-spec : {M : Type 1} → statement M
-put-definitions-spec =
+pub put_definitions_spec : {M : Type 1} → statement M
+put_definitions_spec =
     tie.close
     (tie.spec
-    invariant-loop
-    decreases-loop
-    loop-holds
-    put-definition-requires
-    add-i
-    loop-less
-    loop-again
+    invariant_loop
+    decreases_loop
+    loop_holds
+    put_definition_requires
+    add_i
+    loop_less
+    loop_again
     same_length
     returns)

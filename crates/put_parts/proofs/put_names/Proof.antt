@@ -5,73 +5,73 @@ use mathlib.Core.Path.{◌≡◌, refl}
 use mathlib.Core.List.{map}
 use borrow.Author.Rules.{rules}
 use Rattle.paper.specs.Lists.{joined, sum}
-use Rattle.paper.specs.Pack.Fields.{nameLengthWidth, byteWidth, nameFields}
+use Rattle.paper.specs.Pack.Fields.{name_length_width, byte_width, name_fields}
 use Rattle.paper.specs.Tables.Layout.{pieces, split}
 use Rattle.put_field.specs.Writer.{Puts}
-use Rattle.put_parts.specs.Parts.{lengthsIn}
-use Rattle.put_field.proofs.Writing.{puts-nothing, puts-both, puts-are}
-use Rattle.put_parts.proofs.Names.{name-sum, name-fits, name-more}
+use Rattle.put_parts.specs.Parts.{lengths_in}
+use Rattle.put_field.proofs.Writing.{puts_nothing, puts_both, puts_are}
+use Rattle.put_parts.proofs.Names.{name_sum, name_fits, name_more}
 use Rattle.put_parts.proofs.put_names.Statement.{statement}
 use Rattle.put_parts.proofs.put_names.Tie as tie
 
-abbrev invariant-loop : tie.invariant-loop
-invariant-loop out₀ names categories n w₀ at₀ i₀ out w at i =
+abbrev invariant_loop : tie.invariant-loop
+invariant_loop out₀ names categories n w₀ at₀ i₀ out w at i =
     (i ≤ n)
-    × ((at ≡ sum (lengthsIn i categories))
-    × Puts out₀ w₀ (joined (map nameFields (split (lengthsIn i categories) names))) (nameLengthWidth * i + byteWidth * at) out w)
+    × ((at ≡ sum (lengths_in i categories))
+    × Puts out₀ w₀ (joined (map name_fields (split (lengths_in i categories) names))) (name_length_width * i + byte_width * at) out w)
 
-abbrev decreases-loop : tie.decreases-loop
-decreases-loop out₀ names categories n w₀ at₀ i₀ out w at i = n - i
+abbrev decreases_loop : tie.decreases-loop
+decreases_loop out₀ names categories n w₀ at₀ i₀ out w at i = n - i
 
-loop-holds : tie.Need-loop-init invariant-loop decreases-loop
-unfolding lengthsIn pieces split
-loop-holds c = (omega arith, (refl, puts-nothing _ _ _ c.before.before.before.requires.1.1))
+loop_holds : tie.Need-loop-init invariant_loop decreases_loop
+unfolding lengths_in pieces split
+loop_holds c = (omega arith, (refl, puts_nothing _ _ _ c.before.before.before.requires.1.1))
 
-mul-get-u16 : tie.Need-overflow-mul-get-u16 invariant-loop decreases-loop
-mul-get-u16 c = omega arith
+mul_get_u16 : tie.Need-overflow-mul-get-u16 invariant_loop decreases_loop
+mul_get_u16 c = omega arith
 
-add-get-u16 : tie.Need-overflow-add-get-u16 invariant-loop decreases-loop
-add-get-u16 c = omega arith
+add_get_u16 : tie.Need-overflow-add-get-u16 invariant_loop decreases_loop
+add_get_u16 c = omega arith
 
-get-u16-requires : tie.Need-get-u16-requires invariant-loop decreases-loop
-get-u16-requires c κs = search rules
+get_u16_requires : tie.Need-get-u16-requires invariant_loop decreases_loop
+get_u16_requires c κs = search rules
 
-cast-len : tie.Need-overflow-cast-len invariant-loop decreases-loop
-cast-len c = omega arith
+cast_len : tie.Need-overflow-cast-len invariant_loop decreases_loop
+cast_len c = omega arith
 
-put-name-requires : tie.Need-put-name-requires invariant-loop decreases-loop
-put-name-requires c κs =
-    let f = name-fits _ _ _ _ _ c.before.before.loop-test.true
+put_name_requires : tie.Need-put-name-requires invariant_loop decreases_loop
+put_name_requires c κs =
+    let f = name_fits _ _ _ _ _ c.before.before.loop-test.true
     c.before.before.before.before.before.before.before.requires.0
     c.before.get-u16.ensures
     c.before.before.before.loop.invariant.1.0 in
     (omega arith, record { few = omega arith; room = omega arith })
 
-add_at : tie.Need-overflow-add-at invariant-loop decreases-loop
+add_at : tie.Need-overflow-add-at invariant_loop decreases_loop
 add_at c =
-    let f = name-fits _ _ _ _ _ c.before.before.before.before.before.loop-test.true
+    let f = name_fits _ _ _ _ _ c.before.before.before.before.before.loop-test.true
     c.before.before.before.before.before.before.before.before.before.before.requires.0
     c.before.before.before.before.get-u16.ensures
     c.before.before.before.before.before.before.loop.invariant.1.0 in
     omega arith
 
-add-i : tie.Need-overflow-add-i invariant-loop decreases-loop
-add-i c = omega arith
+add_i : tie.Need-overflow-add-i invariant_loop decreases_loop
+add_i c = omega arith
 
-loop-less : tie.Need-loop-smaller invariant-loop decreases-loop
-loop-less c = omega arith
+loop_less : tie.Need-loop-smaller invariant_loop decreases_loop
+loop_less c = omega arith
 
-loop-again : tie.Need-loop-preserved invariant-loop decreases-loop
-loop-again c = (
+loop_again : tie.Need-loop-preserved invariant_loop decreases_loop
+loop_again c = (
   omega arith,
   (
-    (let s = name-sum _ _ _ _ _ c.before.before.before.before.before.loop-test.true
+    (let s = name_sum _ _ _ _ _ c.before.before.before.before.before.loop-test.true
         c.before.before.before.before.before.before.before.before.before.before.requires.0
         c.before.before.before.before.get-u16.ensures
         c.before.before.before.before.before.before.loop.invariant.1.0 in omega arith),
-    puts-are (puts-both c.before.before.before.before.before.before.loop.invariant.1.1
+    puts_are (puts_both c.before.before.before.before.before.before.loop.invariant.1.1
         c.before.before.put-name.ensures)
-        (name-more _ _ _ _ _ c.before.before.before.before.before.loop-test.true
+        (name_more _ _ _ _ _ c.before.before.before.before.before.loop-test.true
         c.before.before.before.before.before.before.before.before.before.before.requires.0
         c.before.before.before.before.get-u16.ensures
         c.before.before.before.before.before.before.loop.invariant.1.0 _)
@@ -79,30 +79,30 @@ loop-again c = (
   ),
 )
 
-same_length : tie.Need-same-length invariant-loop decreases-loop
+same_length : tie.Need-same-length invariant_loop decreases_loop
 same_length c = c.before.loop.invariant.1.1.same_length
 
-returns : tie.Need-returns invariant-loop decreases-loop
+returns : tie.Need-returns invariant_loop decreases_loop
 returns c =
     let e : c.before.loop.i ≡ c.before.before.before.before.before.args.n = omega arith in
     let f = rw e at c.before.loop.invariant.1.0 in
-    puts-are (rw e at c.before.loop.invariant.1.1) refl (omega arith)
+    puts_are (rw e at c.before.loop.invariant.1.1) refl (omega arith)
 
-pub put-names-spec : {M : Type 1} → statement M
-put-names-spec =
+pub put_names_spec : {M : Type 1} → statement M
+put_names_spec =
     tie.close
     (tie.spec
-    invariant-loop
-    decreases-loop
-    loop-holds
-    mul-get-u16
-    add-get-u16
-    get-u16-requires
-    cast-len
-    put-name-requires
+    invariant_loop
+    decreases_loop
+    loop_holds
+    mul_get_u16
+    add_get_u16
+    get_u16_requires
+    cast_len
+    put_name_requires
     add_at
-    add-i
-    loop-less
-    loop-again
+    add_i
+    loop_less
+    loop_again
     same_length
     returns)

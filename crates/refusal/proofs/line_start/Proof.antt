@@ -6,47 +6,47 @@ use Prim.Native.Nat.{◌-◌}
 use Rattle.refusal.proofs.line_start.Statement.{statement}
 use Rattle.refusal.proofs.line_start.Tie as tie
 
-abbrev invariant-loop : tie.invariant-loop
-invariant-loop text line left₀ i₀ left i = Unit {0}
+abbrev invariant_loop : tie.invariant-loop
+invariant_loop text line left₀ i₀ left i = Unit {0}
 
-abbrev decreases-loop : tie.decreases-loop
-decreases-loop text line left₀ i₀ left i = length text - i
+abbrev decreases_loop : tie.decreases-loop
+decreases_loop text line left₀ i₀ left i = length text - i
 
-loop-holds : tie.Need-loop-init invariant-loop decreases-loop
-loop-holds c = search rules
+loop_holds : tie.Need-loop-init invariant_loop decreases_loop
+loop_holds c = search rules
 
-returns : tie.Need-returns invariant-loop decreases-loop
+returns : tie.Need-returns invariant_loop decreases_loop
 returns c = search rules
 
-shared-slice-read-if2 : tie.Need-shared-slice-read-if2 invariant-loop decreases-loop
-shared-slice-read-if2 c = search rules
+shared_slice_read_if2 : tie.Need-shared-slice-read-if2 invariant_loop decreases_loop
+shared_slice_read_if2 c = search rules
 
-sub-left : tie.Need-overflow-sub-left invariant-loop decreases-loop
-sub-left c = search rules
+sub_left : tie.Need-overflow-sub-left invariant_loop decreases_loop
+sub_left c = search rules
 
-add-i : tie.Need-overflow-add-i invariant-loop decreases-loop
-add-i c = search rules
+add_i : tie.Need-overflow-add-i invariant_loop decreases_loop
+add_i c = search rules
 
-loop-less : tie.Need-loop-smaller invariant-loop decreases-loop
-loop-less c = search rules
+loop_less : tie.Need-loop-smaller invariant_loop decreases_loop
+loop_less c = search rules
 
-loop-again : tie.Need-loop-preserved invariant-loop decreases-loop
-loop-again c = search rules
+loop_again : tie.Need-loop-preserved invariant_loop decreases_loop
+loop_again c = search rules
 
-returns-2 : tie.Need-returns-2 invariant-loop decreases-loop
-returns-2 c = search rules
+returns_2 : tie.Need-returns-2 invariant_loop decreases_loop
+returns_2 c = search rules
 
-pub line-start-spec : {M : Type 1} → statement M
-line-start-spec =
+pub line_start_spec : {M : Type 1} → statement M
+line_start_spec =
     tie.close
     (tie.spec
-    invariant-loop
-    decreases-loop
-    loop-holds
+    invariant_loop
+    decreases_loop
+    loop_holds
     returns
-    shared-slice-read-if2
-    sub-left
-    add-i
-    loop-less
-    loop-again
-    returns-2)
+    shared_slice_read_if2
+    sub_left
+    add_i
+    loop_less
+    loop_again
+    returns_2)

@@ -5,79 +5,79 @@ use Rattle.io.proofs.Counting.{prefix_len_of_le}
 use Rattle.replay.proofs.bytes_of.Statement.{statement}
 use Rattle.replay.proofs.bytes_of.Tie as tie
 
-abbrev invariant-loop : tie.invariant-loop
-invariant-loop list start end room₀ n₀ at₀ room n at = (n ≤ length room₀) × (length room ≡ length room₀)
+abbrev invariant_loop : tie.invariant-loop
+invariant_loop list start end room₀ n₀ at₀ room n at = (n ≤ length room₀) × (length room ≡ length room₀)
 
-abbrev decreases-loop : tie.decreases-loop
-decreases-loop list start end room₀ n₀ at₀ room n at = length room₀ - n
+abbrev decreases_loop : tie.decreases-loop
+decreases_loop list start end room₀ n₀ at₀ room n at = length room₀ - n
 
-loop-holds : tie.Need-loop-init invariant-loop decreases-loop
-loop-holds c = search rules
+loop_holds : tie.Need-loop-init invariant_loop decreases_loop
+loop_holds c = search rules
 
-same_length : tie.Need-same-length invariant-loop decreases-loop
+same_length : tie.Need-same-length invariant_loop decreases_loop
 same_length c = search rules
 
-returns : tie.Need-returns invariant-loop decreases-loop
+returns : tie.Need-returns invariant_loop decreases_loop
 returns c = prefix_len_of_le _ _ (omega arith)
 
-sub-if2 : tie.Need-overflow-sub-if2 invariant-loop decreases-loop
-sub-if2 c = search rules
+sub_if2 : tie.Need-overflow-sub-if2 invariant_loop decreases_loop
+sub_if2 c = search rules
 
-same-length-2 : tie.Need-same-length-2 invariant-loop decreases-loop
-same-length-2 c = search rules
+same_length_2 : tie.Need-same-length-2 invariant_loop decreases_loop
+same_length_2 c = search rules
 
-returns-2 : tie.Need-returns-2 invariant-loop decreases-loop
-returns-2 c = prefix_len_of_le _ _ (omega arith)
+returns_2 : tie.Need-returns-2 invariant_loop decreases_loop
+returns_2 c = prefix_len_of_le _ _ (omega arith)
 
-add-number-of : tie.Need-overflow-add-number-of invariant-loop decreases-loop
-add-number-of c = search rules
+add_number_of : tie.Need-overflow-add-number-of invariant_loop decreases_loop
+add_number_of c = search rules
 
-number-of-requires : tie.Need-number-of-requires invariant-loop decreases-loop
-number-of-requires c κs = search rules
+number_of_requires : tie.Need-number-of-requires invariant_loop decreases_loop
+number_of_requires c κs = search rules
 
-cast-room : tie.Need-overflow-cast-room invariant-loop decreases-loop
-cast-room c = search rules
+cast_room : tie.Need-overflow-cast-room invariant_loop decreases_loop
+cast_room c = search rules
 
-slice-write-room : tie.Need-slice-write-room invariant-loop decreases-loop
-slice-write-room c = search rules
+slice_write_room : tie.Need-slice-write-room invariant_loop decreases_loop
+slice_write_room c = search rules
 
-add-n : tie.Need-overflow-add-n invariant-loop decreases-loop
-add-n c = search rules
+add_n : tie.Need-overflow-add-n invariant_loop decreases_loop
+add_n c = search rules
 
-add_at : tie.Need-overflow-add-at invariant-loop decreases-loop
+add_at : tie.Need-overflow-add-at invariant_loop decreases_loop
 add_at c = search rules
 
-loop-less : tie.Need-loop-smaller invariant-loop decreases-loop
-loop-less c = search rules
+loop_less : tie.Need-loop-smaller invariant_loop decreases_loop
+loop_less c = search rules
 
-loop-again : tie.Need-loop-preserved invariant-loop decreases-loop
-loop-again c = (omega arith, simp length-set (omega arith))
+loop_again : tie.Need-loop-preserved invariant_loop decreases_loop
+loop_again c = (omega arith, simp length-set (omega arith))
 
-same-length-3 : tie.Need-same-length-3 invariant-loop decreases-loop
-same-length-3 c = search rules
+same_length_3 : tie.Need-same-length-3 invariant_loop decreases_loop
+same_length_3 c = search rules
 
-returns-3 : tie.Need-returns-3 invariant-loop decreases-loop
-returns-3 c = prefix_len_of_le _ _ (omega arith)
+returns_3 : tie.Need-returns-3 invariant_loop decreases_loop
+returns_3 c = prefix_len_of_le _ _ (omega arith)
 
-pub bytes-of-spec : {M : Type 1} → statement M
-bytes-of-spec =
+pub bytes_of_spec : {M : Type 1} → statement M
+bytes_of_spec =
     tie.close
     (tie.spec
-    invariant-loop
-    decreases-loop
-    loop-holds
+    invariant_loop
+    decreases_loop
+    loop_holds
     same_length
     returns
-    sub-if2
-    same-length-2
-    returns-2
-    add-number-of
-    number-of-requires
-    cast-room
-    slice-write-room
-    add-n
+    sub_if2
+    same_length_2
+    returns_2
+    add_number_of
+    number_of_requires
+    cast_room
+    slice_write_room
+    add_n
     add_at
-    loop-less
-    loop-again
-    same-length-3
-    returns-3)
+    loop_less
+    loop_again
+    same_length_3
+    returns_3)

@@ -4,55 +4,55 @@ use Rattle.std.proofs.Common.{◌-◌, ◌≤◌, length, rules}
 use Rattle.replay.proofs.field_at.Statement.{statement}
 use Rattle.replay.proofs.field_at.Tie as tie
 
-abbrev invariant-loop : tie.invariant-loop
-invariant-loop list at size end₀ end = (at ≤ end) × (end ≤ length list)
+abbrev invariant_loop : tie.invariant-loop
+invariant_loop list at size end₀ end = (at ≤ end) × (end ≤ length list)
 
-abbrev decreases-loop : tie.decreases-loop
-decreases-loop list at size end₀ end = length list - end
+abbrev decreases_loop : tie.decreases-loop
+decreases_loop list at size end₀ end = length list - end
 
-returns : tie.Need-returns invariant-loop decreases-loop
+returns : tie.Need-returns invariant_loop decreases_loop
 returns c = search rules
 
-loop-holds : tie.Need-loop-init invariant-loop decreases-loop
-loop-holds c = search rules
+loop_holds : tie.Need-loop-init invariant_loop decreases_loop
+loop_holds c = search rules
 
-shared-slice-read-is-gap : tie.Need-shared-slice-read-is-gap invariant-loop decreases-loop
-shared-slice-read-is-gap c = search rules
+shared_slice_read_is_gap : tie.Need-shared-slice-read-is-gap invariant_loop decreases_loop
+shared_slice_read_is_gap c = search rules
 
-is-gap-requires : tie.Need-is-gap-requires invariant-loop decreases-loop
-is-gap-requires c κs = search rules
+is_gap_requires : tie.Need-is-gap-requires invariant_loop decreases_loop
+is_gap_requires c κs = search rules
 
-add-t10 : tie.Need-overflow-add-t10 invariant-loop decreases-loop
-add-t10 c = search rules
+add_t10 : tie.Need-overflow-add-t10 invariant_loop decreases_loop
+add_t10 c = search rules
 
-returns-2 : tie.Need-returns-2 invariant-loop decreases-loop
-returns-2 c = search rules
+returns_2 : tie.Need-returns-2 invariant_loop decreases_loop
+returns_2 c = search rules
 
-add-end : tie.Need-overflow-add-end invariant-loop decreases-loop
-add-end c = search rules
+add_end : tie.Need-overflow-add-end invariant_loop decreases_loop
+add_end c = search rules
 
-loop-less : tie.Need-loop-smaller invariant-loop decreases-loop
-loop-less c = search rules
+loop_less : tie.Need-loop-smaller invariant_loop decreases_loop
+loop_less c = search rules
 
-loop-again : tie.Need-loop-preserved invariant-loop decreases-loop
-loop-again c = search rules
+loop_again : tie.Need-loop-preserved invariant_loop decreases_loop
+loop_again c = search rules
 
-returns-3 : tie.Need-returns-3 invariant-loop decreases-loop
-returns-3 c = search rules
+returns_3 : tie.Need-returns-3 invariant_loop decreases_loop
+returns_3 c = search rules
 
-pub field-at-spec : {M : Type 1} → statement M
-field-at-spec =
+pub field_at_spec : {M : Type 1} → statement M
+field_at_spec =
     tie.close
     (tie.spec
-    invariant-loop
-    decreases-loop
+    invariant_loop
+    decreases_loop
     returns
-    loop-holds
-    shared-slice-read-is-gap
-    is-gap-requires
-    add-t10
-    returns-2
-    add-end
-    loop-less
-    loop-again
-    returns-3)
+    loop_holds
+    shared_slice_read_is_gap
+    is_gap_requires
+    add_t10
+    returns_2
+    add_end
+    loop_less
+    loop_again
+    returns_3)

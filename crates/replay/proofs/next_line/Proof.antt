@@ -4,47 +4,47 @@ use Rattle.std.proofs.Common.{◌-◌, length, rules}
 use Rattle.replay.proofs.next_line.Statement.{statement}
 use Rattle.replay.proofs.next_line.Tie as tie
 
-abbrev invariant-loop : tie.invariant-loop
-invariant-loop list at size end₀ end = Unit {0}
+abbrev invariant_loop : tie.invariant-loop
+invariant_loop list at size end₀ end = Unit {0}
 
-abbrev decreases-loop : tie.decreases-loop
-decreases-loop list at size end₀ end = length list - end
+abbrev decreases_loop : tie.decreases-loop
+decreases_loop list at size end₀ end = length list - end
 
-loop-holds : tie.Need-loop-init invariant-loop decreases-loop
-loop-holds c = search rules
+loop_holds : tie.Need-loop-init invariant_loop decreases_loop
+loop_holds c = search rules
 
-shared-slice-read-if1 : tie.Need-shared-slice-read-if1 invariant-loop decreases-loop
-shared-slice-read-if1 c = search rules
+shared_slice_read_if1 : tie.Need-shared-slice-read-if1 invariant_loop decreases_loop
+shared_slice_read_if1 c = search rules
 
-add-result : tie.Need-overflow-add-result invariant-loop decreases-loop
-add-result c = search rules
+add_result : tie.Need-overflow-add-result invariant_loop decreases_loop
+add_result c = search rules
 
-returns : tie.Need-returns invariant-loop decreases-loop
+returns : tie.Need-returns invariant_loop decreases_loop
 returns c = search rules
 
-add-end : tie.Need-overflow-add-end invariant-loop decreases-loop
-add-end c = search rules
+add_end : tie.Need-overflow-add-end invariant_loop decreases_loop
+add_end c = search rules
 
-loop-less : tie.Need-loop-smaller invariant-loop decreases-loop
-loop-less c = search rules
+loop_less : tie.Need-loop-smaller invariant_loop decreases_loop
+loop_less c = search rules
 
-loop-again : tie.Need-loop-preserved invariant-loop decreases-loop
-loop-again c = search rules
+loop_again : tie.Need-loop-preserved invariant_loop decreases_loop
+loop_again c = search rules
 
-returns-2 : tie.Need-returns-2 invariant-loop decreases-loop
-returns-2 c = search rules
+returns_2 : tie.Need-returns-2 invariant_loop decreases_loop
+returns_2 c = search rules
 
-pub next-line-spec : {M : Type 1} → statement M
-next-line-spec =
+pub next_line_spec : {M : Type 1} → statement M
+next_line_spec =
     tie.close
     (tie.spec
-    invariant-loop
-    decreases-loop
-    loop-holds
-    shared-slice-read-if1
-    add-result
+    invariant_loop
+    decreases_loop
+    loop_holds
+    shared_slice_read_if1
+    add_result
     returns
-    add-end
-    loop-less
-    loop-again
-    returns-2)
+    add_end
+    loop_less
+    loop_again
+    returns_2)

@@ -8,47 +8,47 @@ use Rattle.io.proofs.Counting.{prefix_len_of_le}
 use Rattle.say.proofs.trimmed.Statement.{statement}
 use Rattle.say.proofs.trimmed.Tie as tie
 
-abbrev invariant-loop : tie.invariant-loop
-invariant-loop line n₀ n = n ≤ length line
+abbrev invariant_loop : tie.invariant-loop
+invariant_loop line n₀ n = n ≤ length line
 
-abbrev decreases-loop : tie.decreases-loop
-decreases-loop line n₀ n = n
+abbrev decreases_loop : tie.decreases-loop
+decreases_loop line n₀ n = n
 
-loop-holds : tie.Need-loop-init invariant-loop decreases-loop
-loop-holds c = search rules
+loop_holds : tie.Need-loop-init invariant_loop decreases_loop
+loop_holds c = search rules
 
-sub-if1 : tie.Need-overflow-sub-if1 invariant-loop decreases-loop
-sub-if1 c = search rules
+sub_if1 : tie.Need-overflow-sub-if1 invariant_loop decreases_loop
+sub_if1 c = search rules
 
-shared-slice-read-if1 : tie.Need-shared-slice-read-if1 invariant-loop decreases-loop
-shared-slice-read-if1 c = search rules
+shared_slice_read_if1 : tie.Need-shared-slice-read-if1 invariant_loop decreases_loop
+shared_slice_read_if1 c = search rules
 
-returns : tie.Need-returns invariant-loop decreases-loop
+returns : tie.Need-returns invariant_loop decreases_loop
 returns c = prefix_len_of_le _ _ (omega arith)
 
-sub-n : tie.Need-overflow-sub-n invariant-loop decreases-loop
-sub-n c = search rules
+sub_n : tie.Need-overflow-sub-n invariant_loop decreases_loop
+sub_n c = search rules
 
-loop-less : tie.Need-loop-smaller invariant-loop decreases-loop
-loop-less c = search rules
+loop_less : tie.Need-loop-smaller invariant_loop decreases_loop
+loop_less c = search rules
 
-loop-again : tie.Need-loop-preserved invariant-loop decreases-loop
-loop-again c = search rules
+loop_again : tie.Need-loop-preserved invariant_loop decreases_loop
+loop_again c = search rules
 
-returns-2 : tie.Need-returns-2 invariant-loop decreases-loop
-returns-2 c = prefix_len_of_le _ _ (omega arith)
+returns_2 : tie.Need-returns-2 invariant_loop decreases_loop
+returns_2 c = prefix_len_of_le _ _ (omega arith)
 
-pub trimmed-spec : {M : Type 1} → statement M
-trimmed-spec =
+pub trimmed_spec : {M : Type 1} → statement M
+trimmed_spec =
     tie.close
     (tie.spec
-    invariant-loop
-    decreases-loop
-    loop-holds
-    sub-if1
-    shared-slice-read-if1
+    invariant_loop
+    decreases_loop
+    loop_holds
+    sub_if1
+    shared_slice_read_if1
     returns
-    sub-n
-    loop-less
-    loop-again
-    returns-2)
+    sub_n
+    loop_less
+    loop_again
+    returns_2)

@@ -4,43 +4,43 @@ use Rattle.std.proofs.Common.{◌≡◌, ◌-◌, length, rules}
 use Rattle.show.proofs.show_categories.Statement.{statement}
 use Rattle.show.proofs.show_categories.Tie as tie
 
-abbrev invariant-loop : tie.invariant-loop
-invariant-loop room₀ names categories count next₀ i₀ room next i = length room ≡ length room₀
+abbrev invariant_loop : tie.invariant-loop
+invariant_loop room₀ names categories count next₀ i₀ room next i = length room ≡ length room₀
 
-abbrev decreases-loop : tie.decreases-loop
-decreases-loop room₀ names categories count next₀ i₀ room next i = count - i
+abbrev decreases_loop : tie.decreases-loop
+decreases_loop room₀ names categories count next₀ i₀ room next i = count - i
 
-loop-holds : tie.Need-loop-init invariant-loop decreases-loop
-loop-holds c = search rules
+loop_holds : tie.Need-loop-init invariant_loop decreases_loop
+loop_holds c = search rules
 
-put-category-requires : tie.Need-put-category-requires invariant-loop decreases-loop
-put-category-requires c κs = search rules
+put_category_requires : tie.Need-put-category-requires invariant_loop decreases_loop
+put_category_requires c κs = search rules
 
-add-i : tie.Need-overflow-add-i invariant-loop decreases-loop
-add-i c = search rules
+add_i : tie.Need-overflow-add-i invariant_loop decreases_loop
+add_i c = search rules
 
-loop-less : tie.Need-loop-smaller invariant-loop decreases-loop
-loop-less c = search rules
+loop_less : tie.Need-loop-smaller invariant_loop decreases_loop
+loop_less c = search rules
 
-loop-again : tie.Need-loop-preserved invariant-loop decreases-loop
-loop-again c = search rules
+loop_again : tie.Need-loop-preserved invariant_loop decreases_loop
+loop_again c = search rules
 
-same_length : tie.Need-same-length invariant-loop decreases-loop
+same_length : tie.Need-same-length invariant_loop decreases_loop
 same_length c = search rules
 
-returns : tie.Need-returns invariant-loop decreases-loop
+returns : tie.Need-returns invariant_loop decreases_loop
 returns c = search rules
 
-pub show-categories-spec : {M : Type 1} → statement M
-show-categories-spec =
+pub show_categories_spec : {M : Type 1} → statement M
+show_categories_spec =
     tie.close
     (tie.spec
-    invariant-loop
-    decreases-loop
-    loop-holds
-    put-category-requires
-    add-i
-    loop-less
-    loop-again
+    invariant_loop
+    decreases_loop
+    loop_holds
+    put_category_requires
+    add_i
+    loop_less
+    loop_again
     same_length
     returns)

@@ -7,59 +7,59 @@ use Prim.Native.Nat.{◌-◌}
 use Rattle.show_row.proofs.put_names.Statement.{statement}
 use Rattle.show_row.proofs.put_names.Tie as tie
 
-abbrev invariant-loop : tie.invariant-loop
-invariant-loop room₀ names categories row next₀ i₀ room next i = length room ≡ length room₀
+abbrev invariant_loop : tie.invariant-loop
+invariant_loop room₀ names categories row next₀ i₀ room next i = length room ≡ length room₀
 
-abbrev decreases-loop : tie.decreases-loop
-decreases-loop room₀ names categories row next₀ i₀ room next i = length row - i
+abbrev decreases_loop : tie.decreases-loop
+decreases_loop room₀ names categories row next₀ i₀ room next i = length row - i
 
-loop-holds : tie.Need-loop-init invariant-loop decreases-loop
-loop-holds c = search rules
+loop_holds : tie.Need-loop-init invariant_loop decreases_loop
+loop_holds c = search rules
 
-byte-requires : tie.Need-byte-requires invariant-loop decreases-loop
-byte-requires c κs = search rules
+byte_requires : tie.Need-byte-requires invariant_loop decreases_loop
+byte_requires c κs = search rules
 
-mul-wide16 : tie.Need-overflow-mul-wide16 invariant-loop decreases-loop
-mul-wide16 c = search rules
+mul_wide16 : tie.Need-overflow-mul-wide16 invariant_loop decreases_loop
+mul_wide16 c = search rules
 
-shared-slice-read-wide16 : tie.Need-shared-slice-read-wide16 invariant-loop decreases-loop
-shared-slice-read-wide16 c = search rules
+shared_slice_read_wide16 : tie.Need-shared-slice-read-wide16 invariant_loop decreases_loop
+shared_slice_read_wide16 c = search rules
 
-wide16-requires : tie.Need-wide16-requires invariant-loop decreases-loop
-wide16-requires c κs = search rules
+wide16_requires : tie.Need-wide16-requires invariant_loop decreases_loop
+wide16_requires c κs = search rules
 
-put-name-requires : tie.Need-put-name-requires invariant-loop decreases-loop
-put-name-requires c κs = search rules
+put_name_requires : tie.Need-put-name-requires invariant_loop decreases_loop
+put_name_requires c κs = search rules
 
-add-i : tie.Need-overflow-add-i invariant-loop decreases-loop
-add-i c = search rules
+add_i : tie.Need-overflow-add-i invariant_loop decreases_loop
+add_i c = search rules
 
-loop-less : tie.Need-loop-smaller invariant-loop decreases-loop
-loop-less c = search rules
+loop_less : tie.Need-loop-smaller invariant_loop decreases_loop
+loop_less c = search rules
 
-loop-again : tie.Need-loop-preserved invariant-loop decreases-loop
-loop-again c = search rules
+loop_again : tie.Need-loop-preserved invariant_loop decreases_loop
+loop_again c = search rules
 
-same_length : tie.Need-same-length invariant-loop decreases-loop
+same_length : tie.Need-same-length invariant_loop decreases_loop
 same_length c = search rules
 
-returns : tie.Need-returns invariant-loop decreases-loop
+returns : tie.Need-returns invariant_loop decreases_loop
 returns c = search rules
 
-pub put-names-spec : {M : Type 1} → statement M
-put-names-spec =
+pub put_names_spec : {M : Type 1} → statement M
+put_names_spec =
     tie.close
     (tie.spec
-    invariant-loop
-    decreases-loop
-    loop-holds
-    byte-requires
-    mul-wide16
-    shared-slice-read-wide16
-    wide16-requires
-    put-name-requires
-    add-i
-    loop-less
-    loop-again
+    invariant_loop
+    decreases_loop
+    loop_holds
+    byte_requires
+    mul_wide16
+    shared_slice_read_wide16
+    wide16_requires
+    put_name_requires
+    add_i
+    loop_less
+    loop_again
     same_length
     returns)

@@ -7,59 +7,59 @@ use Prim.Native.Nat.{◌-◌}
 use Rattle.show_row.proofs.put_numbers.Statement.{statement}
 use Rattle.show_row.proofs.put_numbers.Tie as tie
 
-abbrev invariant-loop : tie.invariant-loop
-invariant-loop room₀ row next₀ i₀ room next i = length room ≡ length room₀
+abbrev invariant_loop : tie.invariant-loop
+invariant_loop room₀ row next₀ i₀ room next i = length room ≡ length room₀
 
-abbrev decreases-loop : tie.decreases-loop
-decreases-loop room₀ row next₀ i₀ room next i = length row - i
+abbrev decreases_loop : tie.decreases-loop
+decreases_loop room₀ row next₀ i₀ room next i = length row - i
 
-loop-holds : tie.Need-loop-init invariant-loop decreases-loop
-loop-holds c = search rules
+loop_holds : tie.Need-loop-init invariant_loop decreases_loop
+loop_holds c = search rules
 
-byte-requires : tie.Need-byte-requires invariant-loop decreases-loop
-byte-requires c κs = search rules
+byte_requires : tie.Need-byte-requires invariant_loop decreases_loop
+byte_requires c κs = search rules
 
-mul-wide16 : tie.Need-overflow-mul-wide16 invariant-loop decreases-loop
-mul-wide16 c = search rules
+mul_wide16 : tie.Need-overflow-mul-wide16 invariant_loop decreases_loop
+mul_wide16 c = search rules
 
-shared-slice-read-wide16 : tie.Need-shared-slice-read-wide16 invariant-loop decreases-loop
-shared-slice-read-wide16 c = search rules
+shared_slice_read_wide16 : tie.Need-shared-slice-read-wide16 invariant_loop decreases_loop
+shared_slice_read_wide16 c = search rules
 
-wide16-requires : tie.Need-wide16-requires invariant-loop decreases-loop
-wide16-requires c κs = search rules
+wide16_requires : tie.Need-wide16-requires invariant_loop decreases_loop
+wide16_requires c κs = search rules
 
-decimal-requires : tie.Need-decimal-requires invariant-loop decreases-loop
-decimal-requires c κs = search rules
+decimal_requires : tie.Need-decimal-requires invariant_loop decreases_loop
+decimal_requires c κs = search rules
 
-add-i : tie.Need-overflow-add-i invariant-loop decreases-loop
-add-i c = search rules
+add_i : tie.Need-overflow-add-i invariant_loop decreases_loop
+add_i c = search rules
 
-loop-less : tie.Need-loop-smaller invariant-loop decreases-loop
-loop-less c = search rules
+loop_less : tie.Need-loop-smaller invariant_loop decreases_loop
+loop_less c = search rules
 
-loop-again : tie.Need-loop-preserved invariant-loop decreases-loop
-loop-again c = search rules
+loop_again : tie.Need-loop-preserved invariant_loop decreases_loop
+loop_again c = search rules
 
-same_length : tie.Need-same-length invariant-loop decreases-loop
+same_length : tie.Need-same-length invariant_loop decreases_loop
 same_length c = search rules
 
-returns : tie.Need-returns invariant-loop decreases-loop
+returns : tie.Need-returns invariant_loop decreases_loop
 returns c = search rules
 
-pub put-numbers-spec : {M : Type 1} → statement M
-put-numbers-spec =
+pub put_numbers_spec : {M : Type 1} → statement M
+put_numbers_spec =
     tie.close
     (tie.spec
-    invariant-loop
-    decreases-loop
-    loop-holds
-    byte-requires
-    mul-wide16
-    shared-slice-read-wide16
-    wide16-requires
-    decimal-requires
-    add-i
-    loop-less
-    loop-again
+    invariant_loop
+    decreases_loop
+    loop_holds
+    byte_requires
+    mul_wide16
+    shared_slice_read_wide16
+    wide16_requires
+    decimal_requires
+    add_i
+    loop_less
+    loop_again
     same_length
     returns)

@@ -6,47 +6,47 @@ use Rattle.table.proofs.Zeroing.{Zeroing, start, turn, done, kept}
 use Rattle.table.proofs.zero.Statement.{statement}
 use Rattle.table.proofs.zero.Tie as tie
 
-abbrev invariant-loop : tie.invariant-loop
-invariant-loop t₀ n i₀ t i = Zeroing t₀ n t i
+abbrev invariant_loop : tie.invariant-loop
+invariant_loop t₀ n i₀ t i = Zeroing t₀ n t i
 
-abbrev decreases-loop : tie.decreases-loop
-decreases-loop t₀ n i₀ t i = n - i
+abbrev decreases_loop : tie.decreases-loop
+decreases_loop t₀ n i₀ t i = n - i
 
-returns : tie.Need-returns invariant-loop decreases-loop
+returns : tie.Need-returns invariant_loop decreases_loop
 returns c = kept _ _ c.if1.true
 
-loop-holds : tie.Need-loop-init invariant-loop decreases-loop
-loop-holds c = start _ _ c.if1.false
+loop_holds : tie.Need-loop-init invariant_loop decreases_loop
+loop_holds c = start _ _ c.if1.false
 
-slice-write-t : tie.Need-slice-write-t invariant-loop decreases-loop
-slice-write-t c = search rules
+slice_write_t : tie.Need-slice-write-t invariant_loop decreases_loop
+slice_write_t c = search rules
 
-add-i : tie.Need-overflow-add-i invariant-loop decreases-loop
-add-i c = search rules
+add_i : tie.Need-overflow-add-i invariant_loop decreases_loop
+add_i c = search rules
 
-loop-less : tie.Need-loop-smaller invariant-loop decreases-loop
-loop-less c = search rules
+loop_less : tie.Need-loop-smaller invariant_loop decreases_loop
+loop_less c = search rules
 
-loop-again : tie.Need-loop-preserved invariant-loop decreases-loop
-loop-again c = turn c.before.loop.invariant c.loop-test.true
+loop_again : tie.Need-loop-preserved invariant_loop decreases_loop
+loop_again c = turn c.before.loop.invariant c.loop-test.true
 
-same_length : tie.Need-same-length invariant-loop decreases-loop
+same_length : tie.Need-same-length invariant_loop decreases_loop
 same_length c = c.before.loop.invariant.long
 
-returns-2 : tie.Need-returns-2 invariant-loop decreases-loop
-returns-2 c = done c.before.loop.invariant c.loop-test.false
+returns_2 : tie.Need-returns-2 invariant_loop decreases_loop
+returns_2 c = done c.before.loop.invariant c.loop-test.false
 
-pub zero-spec : {M : Type 1} → statement M
-zero-spec =
+pub zero_spec : {M : Type 1} → statement M
+zero_spec =
     tie.close
     (tie.spec
-    invariant-loop
-    decreases-loop
+    invariant_loop
+    decreases_loop
     returns
-    loop-holds
-    slice-write-t
-    add-i
-    loop-less
-    loop-again
+    loop_holds
+    slice_write_t
+    add_i
+    loop_less
+    loop_again
     same_length
-    returns-2)
+    returns_2)

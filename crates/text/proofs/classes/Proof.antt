@@ -5,7 +5,7 @@ use mathlib.Core.Bool.{Bool}
 use mathlib.Core.List.{List}
 use lib.Dec.{T, eqb, eqb→eq}
 use lib.ListN.{get_or}
-use Rattle.paper.proofs.Lists.Facts.{below, from-below}
+use Rattle.paper.proofs.Lists.Facts.{below, from_below}
 use Rattle.text.specs.Classes.{class_of, ByClass}
 use Rattle.text.proofs.classes.Statement.{statement}
 use Rattle.text.proofs.classes.Tie as tie
@@ -13,13 +13,13 @@ use Rattle.text.proofs.classes.Tie as tie
 right : List ℕ → ℕ → Bool
 right table b = eqb (get_or table b 0) (class_of b)
 
-by-class : (table : List ℕ) → T (below (right table) 256) → ByClass table
+by_class : (table : List ℕ) → T (below (right table) 256) → ByClass table
 unfolding right
-by-class table t = record { entry = λ b h. eqb→eq (get_or table b 0) (class_of b) (from-below (right table) 256 t b h) }
+by_class table t = record { entry = λ b h. eqb→eq (get_or table b 0) (class_of b) (from_below (right table) 256 t b h) }
 
 returns : tie.Need-returns
 unfolding right class_of
-returns c = by-class _ tt
+returns c = by_class _ tt
 
-pub classes-spec : {M : Type 1} → statement M
-classes-spec = tie.close (tie.spec returns)
+pub classes_spec : {M : Type 1} → statement M
+classes_spec = tie.close (tie.spec returns)

@@ -5,8 +5,8 @@ use native.Mathlib.Omega.{arith}
 use mathlib.Core.Path.{◌≡◌, sym, ap}
 use mathlib.Core.Logic.{◌⊎◌, inl, inr}
 use mathlib.Core.Bool.{true, false}
-use Rattle.paper.specs.Text.Scalar.{In, isWhite}
-use Rattle.text.proofs.White.{run, no-white}
+use Rattle.paper.specs.Text.Scalar.{In, is_white}
+use Rattle.text.proofs.White.{run, no_white}
 use Rattle.text.proofs.is_white_space.Statement.{statement}
 use Rattle.text.proofs.is_white_space.Tie as tie
 
@@ -17,35 +17,35 @@ Early c = (c ≡ 0x20) ⊎ ((c ≡ 0x85) ⊎ ((c ≡ 0xA0) ⊎ (c ≡ 0x1680)))
 abbrev Late : ℕ → Type 0
 Late c = (c ≡ 0x202F) ⊎ ((c ≡ 0x205F) ⊎ (c ≡ 0x3000))
 
-early : {c : ℕ} → Early c → isWhite c ≡ true
-unfolding isWhite
-early (inl e) = ap isWhite e
-early (inr (inl e)) = ap isWhite e
-early (inr (inr (inl e))) = ap isWhite e
-early (inr (inr (inr e))) = ap isWhite e
+early : {c : ℕ} → Early c → is_white c ≡ true
+unfolding is_white
+early (inl e) = ap is_white e
+early (inr (inl e)) = ap is_white e
+early (inr (inr (inl e))) = ap is_white e
+early (inr (inr (inr e))) = ap is_white e
 
-late : {c : ℕ} → Late c → isWhite c ≡ true
-unfolding isWhite
-late (inl e) = ap isWhite e
-late (inr (inl e)) = ap isWhite e
-late (inr (inr e)) = ap isWhite e
+late : {c : ℕ} → Late c → is_white c ≡ true
+unfolding is_white
+late (inl e) = ap is_white e
+late (inr (inl e)) = ap is_white e
+late (inr (inr e)) = ap is_white e
 
 -- and run by run
-controls : {c : ℕ} → In 0x9 0xD c → isWhite c ≡ true
-unfolding isWhite
+controls : {c : ℕ} → In 0x9 0xD c → is_white c ≡ true
+unfolding is_white
 controls i = run 0x9 5 tt i.from (omega arith)
 
-quads : {c : ℕ} → In 0x2000 0x200A c → isWhite c ≡ true
-unfolding isWhite
+quads : {c : ℕ} → In 0x2000 0x200A c → is_white c ≡ true
+unfolding is_white
 quads i = run 0x2000 11 tt i.from (omega arith)
 
-separators : {c : ℕ} → In 0x2028 0x2029 c → isWhite c ≡ true
-unfolding isWhite
+separators : {c : ℕ} → In 0x2028 0x2029 c → is_white c ≡ true
+unfolding is_white
 separators i = run 0x2028 2 tt i.from (omega arith)
 
-not_white : (c : ℕ) → (Early c → ⊥) → (Late c → ⊥) → (In 0x9 0xD c → ⊥) → (In 0x2000 0x200A c → ⊥) → (In 0x2028 0x2029 c → ⊥) → isWhite c ≡ false
+not_white : (c : ℕ) → (Early c → ⊥) → (Late c → ⊥) → (In 0x9 0xD c → ⊥) → (In 0x2000 0x200A c → ⊥) → (In 0x2028 0x2029 c → ⊥) → is_white c ≡ false
 not_white c k l r s t =
-    no-white c (
+    no_white c (
       r,
       (
         (λ i. k (inl (omega arith))),
@@ -83,40 +83,40 @@ not_white c k l r s t =
 returns : tie.Need-returns
 returns c = sym (not_white c.before.before.args.c c.before.match.rest.0.1 c.before.match.rest.1 (λ i. omega arith) (λ i. omega arith) (λ i. omega arith))
 
-returns-2 : tie.Need-returns-2
-returns-2 c = sym (not_white c.before.before.before.before.args.c c.before.before.before.match.rest.0.1 c.before.before.before.match.rest.1 (λ i. omega arith) (λ i. omega arith) (λ i. omega arith))
+returns_2 : tie.Need-returns-2
+returns_2 c = sym (not_white c.before.before.before.before.args.c c.before.before.before.match.rest.0.1 c.before.before.before.match.rest.1 (λ i. omega arith) (λ i. omega arith) (λ i. omega arith))
 
-returns-3 : tie.Need-returns-3
-returns-3 c = sym (not_white c.before.before.before.before.before.before.args.c c.before.before.before.before.before.match.rest.0.1 c.before.before.before.before.before.match.rest.1 (λ i. omega arith) (λ i. omega arith) (λ i. omega arith))
+returns_3 : tie.Need-returns-3
+returns_3 c = sym (not_white c.before.before.before.before.before.before.args.c c.before.before.before.before.before.match.rest.0.1 c.before.before.before.before.before.match.rest.1 (λ i. omega arith) (λ i. omega arith) (λ i. omega arith))
 
-returns-4 : tie.Need-returns-4
-returns-4 c = sym (not_white c.before.before.before.before.before.before.before.args.c c.before.before.before.before.before.before.match.rest.0.1 c.before.before.before.before.before.before.match.rest.1 (λ i. omega arith) (λ i. omega arith) (λ i. omega arith))
+returns_4 : tie.Need-returns-4
+returns_4 c = sym (not_white c.before.before.before.before.before.before.before.args.c c.before.before.before.before.before.before.match.rest.0.1 c.before.before.before.before.before.before.match.rest.1 (λ i. omega arith) (λ i. omega arith) (λ i. omega arith))
 
-returns-5 : tie.Need-returns-5
-returns-5 c = sym (late c.match.keys2)
+returns_5 : tie.Need-returns-5
+returns_5 c = sym (late c.match.keys2)
 
-returns-6 : tie.Need-returns-6
-returns-6 c = sym (separators (omega arith))
+returns_6 : tie.Need-returns-6
+returns_6 c = sym (separators (omega arith))
 
-returns-7 : tie.Need-returns-7
-returns-7 c = sym (early c.match.keys1)
+returns_7 : tie.Need-returns-7
+returns_7 c = sym (early c.match.keys1)
 
-returns-8 : tie.Need-returns-8
-returns-8 c = sym (controls (omega arith))
+returns_8 : tie.Need-returns-8
+returns_8 c = sym (controls (omega arith))
 
-returns-9 : tie.Need-returns-9
-returns-9 c = sym (quads (omega arith))
+returns_9 : tie.Need-returns-9
+returns_9 c = sym (quads (omega arith))
 
-pub is-white-space-spec : {M : Type 1} → statement M
-is-white-space-spec =
+pub is_white_space_spec : {M : Type 1} → statement M
+is_white_space_spec =
     tie.close
     (tie.spec
     returns
-    returns-2
-    returns-3
-    returns-4
-    returns-5
-    returns-6
-    returns-7
-    returns-8
-    returns-9)
+    returns_2
+    returns_3
+    returns_4
+    returns_5
+    returns_6
+    returns_7
+    returns_8
+    returns_9)

@@ -4,107 +4,107 @@ use native.Mathlib.Omega.{arith}
 use Prim.Native.Nat.{◌+◌}
 use mathlib.Core.Path.{refl, sym, ap, ◌∙◌}
 use mathlib.Core.Bool.{true, false}
-use Rattle.text.specs.Answers.{nextBy}
-use Rattle.text.proofs.Octets.{is-tail, no-tail, too-low, too-high, just_so, three-ends, three-by}
+use Rattle.text.specs.Answers.{next_by}
+use Rattle.text.proofs.Octets.{is_tail_lem, no_tail, too_low, too_high, just_so, three_ends, three_by}
 use borrow.Author.Rules.{rules}
 use Rattle.text.proofs.three_octets.Statement.{statement}
 use Rattle.text.proofs.three_octets.Tie as tie
 
-sub-if1 : tie.Need-overflow-sub-if1
-sub-if1 c = search rules
+sub_if1 : tie.Need-overflow-sub-if1
+sub_if1 c = search rules
 
 returns : tie.Need-returns
 returns c =
     let a = c.before.before.args in
-    ap (nextBy a.at) (sym (three-ends a.s.now a.at c.if1.true))
+    ap (next_by a.at) (sym (three_ends a.s.now a.at c.if1.true))
 
-shared-slice-read-a : tie.Need-shared-slice-read-a
-shared-slice-read-a c = search rules
+shared_slice_read_a : tie.Need-shared-slice-read-a
+shared_slice_read_a c = search rules
 
-add-b : tie.Need-overflow-add-b
-add-b c = search rules
+add_b : tie.Need-overflow-add-b
+add_b c = search rules
 
-shared-slice-read-b : tie.Need-shared-slice-read-b
-shared-slice-read-b c = search rules
+shared_slice_read_b : tie.Need-shared-slice-read-b
+shared_slice_read_b c = search rules
 
-add-c : tie.Need-overflow-add-c
-add-c c = search rules
+add_c : tie.Need-overflow-add-c
+add_c c = search rules
 
-shared-slice-read-c : tie.Need-shared-slice-read-c
-shared-slice-read-c c = search rules
+shared_slice_read_c : tie.Need-shared-slice-read-c
+shared_slice_read_c c = search rules
 
-returns-2 : tie.Need-returns-2
-returns-2 c =
+returns_2 : tie.Need-returns-2
+returns_2 c =
     let a = c.before.before.before.before.before.before.args in
-    ap (nextBy a.at) (sym (three-by a.s.now a.at c.before.before.before.before.if1.false false _ (too-low c.before.before.before.before.before.before.requires.1.1 c.if2.true) refl))
+    ap (next_by a.at) (sym (three_by a.s.now a.at c.before.before.before.before.if1.false false _ (too_low c.before.before.before.before.before.before.requires.1.1 c.if2.true) refl))
 
-returns-3 : tie.Need-returns-3
-returns-3 c =
+returns_3 : tie.Need-returns-3
+returns_3 c =
     let a = c.before.before.before.before.before.before.before.args in
-    ap (nextBy a.at) (sym (three-by a.s.now a.at c.before.before.before.before.before.if1.false false _ (too-high c.before.before.before.before.before.before.before.requires.1.1 c.if3.true) refl))
+    ap (next_by a.at) (sym (three_by a.s.now a.at c.before.before.before.before.before.if1.false false _ (too_high c.before.before.before.before.before.before.before.requires.1.1 c.if3.true) refl))
 
-class-requires : tie.Need-class-requires
-class-requires c κs = search rules
+class_requires : tie.Need-class-requires
+class_requires c κs = search rules
 
-returns-4 : tie.Need-returns-4
-returns-4 c =
+returns_4 : tie.Need-returns-4
+returns_4 c =
     let a = c.before.before.before.before.before.before.before.before.before.args in
     let second = just_so c.before.before.before.before.before.before.before.before.before.requires.1.1 c.before.before.before.if2.false c.before.before.if3.false in
-    let third = no-tail (c.before.before.before.before.shared-slice-known4.given (a.at + 2)).fits (λ e. c.if4.true (c.before.class.ensures ∙ e)) in
-    ap (nextBy a.at) (sym (three-by a.s.now a.at c.before.before.before.before.before.before.before.if1.false true false second third))
+    let third = no_tail (c.before.before.before.before.shared-slice-known4.given (a.at + 2)).fits (λ e. c.if4.true (c.before.class.ensures ∙ e)) in
+    ap (next_by a.at) (sym (three_by a.s.now a.at c.before.before.before.before.before.before.before.if1.false true false second third))
 
-cast-t16 : tie.Need-overflow-cast-t16
-cast-t16 c = omega (arith, c.before.before.before.before.before.before.shared-slice-known2.given c.before.before.before.before.before.before.before.before.before.args.at)
+cast_t16 : tie.Need-overflow-cast-t16
+cast_t16 c = omega (arith, c.before.before.before.before.before.before.shared-slice-known2.given c.before.before.before.before.before.before.before.before.before.args.at)
 
-mul-t18 : tie.Need-overflow-mul-t18
-mul-t18 c = search rules
+mul_t18 : tie.Need-overflow-mul-t18
+mul_t18 c = search rules
 
-cast-t19 : tie.Need-overflow-cast-t19
-cast-t19 c = omega (arith, c.before.before.before.before.before.shared-slice-known3.given (c.before.before.before.before.before.before.before.before.before.args.at + 1))
+cast_t19 : tie.Need-overflow-cast-t19
+cast_t19 c = omega (arith, c.before.before.before.before.before.shared-slice-known3.given (c.before.before.before.before.before.before.before.before.before.args.at + 1))
 
-add-t21 : tie.Need-overflow-add-t21
-add-t21 c = search rules
+add_t21 : tie.Need-overflow-add-t21
+add_t21 c = search rules
 
-mul-t22 : tie.Need-overflow-mul-t22
-mul-t22 c = search rules
+mul_t22 : tie.Need-overflow-mul-t22
+mul_t22 c = search rules
 
-cast-t23 : tie.Need-overflow-cast-t23
-cast-t23 c = omega (arith, c.before.before.before.before.shared-slice-known4.given (c.before.before.before.before.before.before.before.before.before.args.at + 2))
+cast_t23 : tie.Need-overflow-cast-t23
+cast_t23 c = omega (arith, c.before.before.before.before.shared-slice-known4.given (c.before.before.before.before.before.before.before.before.before.args.at + 2))
 
-add-t25 : tie.Need-overflow-add-t25
-add-t25 c = search rules
+add_t25 : tie.Need-overflow-add-t25
+add_t25 c = search rules
 
-add-t10 : tie.Need-overflow-add-t10
-add-t10 c = search rules
+add_t10 : tie.Need-overflow-add-t10
+add_t10 c = search rules
 
-returns-5 : tie.Need-returns-5
-returns-5 c =
+returns_5 : tie.Need-returns-5
+returns_5 c =
     let a = c.before.before.before.before.before.before.before.before.before.args in
     let second = just_so c.before.before.before.before.before.before.before.before.before.requires.1.1 c.before.before.before.if2.false c.before.before.if3.false in
-    let third = is-tail (c.before.before.before.before.shared-slice-known4.given (a.at + 2)).fits (sym c.before.class.ensures ∙ c.if4.false) in
-    ap (nextBy a.at) (sym (three-by a.s.now a.at c.before.before.before.before.before.before.before.if1.false true true second third))
+    let third = is_tail_lem (c.before.before.before.before.shared-slice-known4.given (a.at + 2)).fits (sym c.before.class.ensures ∙ c.if4.false) in
+    ap (next_by a.at) (sym (three_by a.s.now a.at c.before.before.before.before.before.before.before.if1.false true true second third))
 
-pub three-octets-spec : {M : Type 1} → statement M
-three-octets-spec =
+pub three_octets_spec : {M : Type 1} → statement M
+three_octets_spec =
     tie.close
     (tie.spec
-    sub-if1
+    sub_if1
     returns
-    shared-slice-read-a
-    add-b
-    shared-slice-read-b
-    add-c
-    shared-slice-read-c
-    returns-2
-    returns-3
-    class-requires
-    returns-4
-    cast-t16
-    mul-t18
-    cast-t19
-    add-t21
-    mul-t22
-    cast-t23
-    add-t25
-    add-t10
-    returns-5)
+    shared_slice_read_a
+    add_b
+    shared_slice_read_b
+    add_c
+    shared_slice_read_c
+    returns_2
+    returns_3
+    class_requires
+    returns_4
+    cast_t16
+    mul_t18
+    cast_t19
+    add_t21
+    mul_t22
+    cast_t23
+    add_t25
+    add_t10
+    returns_5)

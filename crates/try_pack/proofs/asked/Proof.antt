@@ -4,39 +4,39 @@ use Rattle.std.proofs.Common.{arith, length-take, rules}
 use Rattle.try_pack.proofs.asked.Statement.{statement}
 use Rattle.try_pack.proofs.asked.Tie as tie
 
-byte-at-requires : tie.Need-byte-at-requires
-byte-at-requires c κs = search rules
+byte_at_requires : tie.Need-byte-at-requires
+byte_at_requires c κs = search rules
 
 returns : tie.Need-returns
 returns c = search rules
 
-noted-requires : tie.Need-noted-requires
-noted-requires c κs = search rules
+noted_requires : tie.Need-noted-requires
+noted_requires c κs = search rules
 
-returns-2 : tie.Need-returns-2
-returns-2 c = search rules
+returns_2 : tie.Need-returns-2
+returns_2 c = search rules
 
-slice-aggregate-answered : tie.Need-slice-aggregate-answered
-slice-aggregate-answered c = simp length-take (omega arith)
+slice_aggregate_answered : tie.Need-slice-aggregate-answered
+slice_aggregate_answered c = simp length-take (omega arith)
 
-answered-requires : tie.Need-answered-requires
-answered-requires c κs = search rules
+answered_requires : tie.Need-answered-requires
+answered_requires c κs = search rules
 
-noted-requires-2 : tie.Need-noted-requires-2
-noted-requires-2 c κs = search rules
+noted_requires_2 : tie.Need-noted-requires-2
+noted_requires_2 c κs = search rules
 
-returns-3 : tie.Need-returns-3
-returns-3 c = search rules
+returns_3 : tie.Need-returns-3
+returns_3 c = search rules
 
-pub asked-spec : {M : Type 1} → statement M
-asked-spec =
+pub asked_spec : {M : Type 1} → statement M
+asked_spec =
     tie.close
     (tie.spec
-    byte-at-requires
+    byte_at_requires
     returns
-    noted-requires
-    returns-2
-    slice-aggregate-answered
-    answered-requires
-    noted-requires-2
-    returns-3)
+    noted_requires
+    returns_2
+    slice_aggregate_answered
+    answered_requires
+    noted_requires_2
+    returns_3)

@@ -4,99 +4,99 @@ use Rattle.std.proofs.Common.{◌≡◌, length, rules}
 use Rattle.try_unk.proofs.replay_all.Statement.{statement}
 use Rattle.try_unk.proofs.replay_all.Tie as tie
 
-abbrev invariant-loop : tie.invariant-loop
-invariant-loop list text₀ base₀ char-def₀ t₀ kept₀ size₀ at₀ number₀ left₀ text base char-def t kept size at number left = (length text ≡ 73728) × (length base ≡ 4096) × (length char-def ≡ 73728)
+abbrev invariant_loop : tie.invariant-loop
+invariant_loop list text₀ base₀ char_def₀ t₀ kept₀ size₀ at₀ number₀ left₀ text base char_def t kept size at number left = (length text ≡ 73728) × (length base ≡ 4096) × (length char_def ≡ 73728)
 
-abbrev decreases-loop : tie.decreases-loop
-decreases-loop list text₀ base₀ char-def₀ t₀ kept₀ size₀ at₀ number₀ left₀ text base char-def t kept size at number left = left
+abbrev decreases_loop : tie.decreases-loop
+decreases_loop list text₀ base₀ char_def₀ t₀ kept₀ size₀ at₀ number₀ left₀ text base char_def t kept size at number left = left
 
-loop-holds : tie.Need-loop-init invariant-loop decreases-loop
-loop-holds c = search rules
+loop_holds : tie.Need-loop-init invariant_loop decreases_loop
+loop_holds c = search rules
 
-sub-left : tie.Need-overflow-sub-left invariant-loop decreases-loop
-sub-left c = search rules
+sub_left : tie.Need-overflow-sub-left invariant_loop decreases_loop
+sub_left c = search rules
 
-wrapping-add-u64-requires : tie.Need-wrapping-add-u64-requires invariant-loop decreases-loop
-wrapping-add-u64-requires c κs = search rules
+wrapping_add_u64_requires : tie.Need-wrapping-add-u64-requires invariant_loop decreases_loop
+wrapping_add_u64_requires c κs = search rules
 
-slice-aggregate-built : tie.Need-slice-aggregate-built invariant-loop decreases-loop
-slice-aggregate-built c = search rules
+slice_aggregate_built : tie.Need-slice-aggregate-built invariant_loop decreases_loop
+slice_aggregate_built c = search rules
 
-slice-aggregate-built-2 : tie.Need-slice-aggregate-built-2 invariant-loop decreases-loop
-slice-aggregate-built-2 c = search rules
+slice_aggregate_built_2 : tie.Need-slice-aggregate-built-2 invariant_loop decreases_loop
+slice_aggregate_built_2 c = search rules
 
-built-requires : tie.Need-built-requires invariant-loop decreases-loop
-built-requires c κs = search rules
+built_requires : tie.Need-built-requires invariant_loop decreases_loop
+built_requires c κs = search rules
 
-slice-aggregate-kept-char-def : tie.Need-slice-aggregate-kept-char-def invariant-loop decreases-loop
-slice-aggregate-kept-char-def c = search rules
+slice_aggregate_kept_char_def : tie.Need-slice-aggregate-kept-char-def invariant_loop decreases_loop
+slice_aggregate_kept_char_def c = search rules
 
-slice-aggregate-kept-char-def-2 : tie.Need-slice-aggregate-kept-char-def-2 invariant-loop decreases-loop
-slice-aggregate-kept-char-def-2 c = search rules
+slice_aggregate_kept_char_def_2 : tie.Need-slice-aggregate-kept-char-def-2 invariant_loop decreases_loop
+slice_aggregate_kept_char_def_2 c = search rules
 
-kept-char-def-requires : tie.Need-kept-char-def-requires invariant-loop decreases-loop
-kept-char-def-requires c κs = search rules
+kept_char_def_requires : tie.Need-kept-char-def-requires invariant_loop decreases_loop
+kept_char_def_requires c κs = search rules
 
-slice-aggregate-least : tie.Need-slice-aggregate-least invariant-loop decreases-loop
-slice-aggregate-least c = search rules
+slice_aggregate_least : tie.Need-slice-aggregate-least invariant_loop decreases_loop
+slice_aggregate_least c = search rules
 
-least-requires : tie.Need-least-requires invariant-loop decreases-loop
-least-requires c κs = search rules
+least_requires : tie.Need-least-requires invariant_loop decreases_loop
+least_requires c κs = search rules
 
-slice-aggregate-asked : tie.Need-slice-aggregate-asked invariant-loop decreases-loop
-slice-aggregate-asked c = search rules
+slice_aggregate_asked : tie.Need-slice-aggregate-asked invariant_loop decreases_loop
+slice_aggregate_asked c = search rules
 
-array-share-prefix-char-def : tie.Need-array-share-prefix-char-def invariant-loop decreases-loop
-array-share-prefix-char-def c = search rules
+array_share_prefix_char_def : tie.Need-array-share-prefix-char-def invariant_loop decreases_loop
+array_share_prefix_char_def c = search rules
 
-slice-aggregate-asked-2 : tie.Need-slice-aggregate-asked-2 invariant-loop decreases-loop
-slice-aggregate-asked-2 c = search rules
+slice_aggregate_asked_2 : tie.Need-slice-aggregate-asked-2 invariant_loop decreases_loop
+slice_aggregate_asked_2 c = search rules
 
-asked-requires : tie.Need-asked-requires invariant-loop decreases-loop
-asked-requires c κs = search rules
+asked_requires : tie.Need-asked-requires invariant_loop decreases_loop
+asked_requires c κs = search rules
 
-next-line-requires : tie.Need-next-line-requires invariant-loop decreases-loop
-next-line-requires c κs = search rules
+next_line_requires : tie.Need-next-line-requires invariant_loop decreases_loop
+next_line_requires c κs = search rules
 
-loop-less : tie.Need-loop-smaller invariant-loop decreases-loop
-loop-less c = search rules
+loop_less : tie.Need-loop-smaller invariant_loop decreases_loop
+loop_less c = search rules
 
-loop-again : tie.Need-loop-preserved invariant-loop decreases-loop
-loop-again c = search rules
+loop_again : tie.Need-loop-preserved invariant_loop decreases_loop
+loop_again c = search rules
 
-loop-less-2 : tie.Need-loop-smaller-2 invariant-loop decreases-loop
-loop-less-2 c = search rules
+loop_less_2 : tie.Need-loop-smaller-2 invariant_loop decreases_loop
+loop_less_2 c = search rules
 
-loop-again-2 : tie.Need-loop-preserved-2 invariant-loop decreases-loop
-loop-again-2 c = search rules
+loop_again_2 : tie.Need-loop-preserved-2 invariant_loop decreases_loop
+loop_again_2 c = search rules
 
-returns : tie.Need-returns invariant-loop decreases-loop
+returns : tie.Need-returns invariant_loop decreases_loop
 returns c = search rules
 
-pub replay-all-spec : {M : Type 1} → statement M
-replay-all-spec =
+pub replay_all_spec : {M : Type 1} → statement M
+replay_all_spec =
     tie.close
     (tie.spec
-    invariant-loop
-    decreases-loop
-    loop-holds
-    sub-left
-    wrapping-add-u64-requires
-    slice-aggregate-built
-    slice-aggregate-built-2
-    built-requires
-    slice-aggregate-kept-char-def
-    slice-aggregate-kept-char-def-2
-    kept-char-def-requires
-    slice-aggregate-least
-    least-requires
-    slice-aggregate-asked
-    array-share-prefix-char-def
-    slice-aggregate-asked-2
-    asked-requires
-    next-line-requires
-    loop-less
-    loop-again
-    loop-less-2
-    loop-again-2
+    invariant_loop
+    decreases_loop
+    loop_holds
+    sub_left
+    wrapping_add_u64_requires
+    slice_aggregate_built
+    slice_aggregate_built_2
+    built_requires
+    slice_aggregate_kept_char_def
+    slice_aggregate_kept_char_def_2
+    kept_char_def_requires
+    slice_aggregate_least
+    least_requires
+    slice_aggregate_asked
+    array_share_prefix_char_def
+    slice_aggregate_asked_2
+    asked_requires
+    next_line_requires
+    loop_less
+    loop_again
+    loop_less_2
+    loop_again_2
     returns)

@@ -2,51 +2,51 @@
 use Prim.Native.Nat.{◌-◌}
 use native.Mathlib.Omega.{arith}
 use borrow.Author.Rules.{rules}
-use Rattle.unk_line.proofs.Scan.{Seeking, seek-start, seek_found, seek-on, seek-end, whole_part}
+use Rattle.unk_line.proofs.Scan.{Seeking, seek_start, seek_found, seek_on, seek_end, whole_part}
 use Rattle.unk_line.proofs.find_byte.Statement.{statement}
 use Rattle.unk_line.proofs.find_byte.Tie as tie
 
-abbrev invariant-loop : tie.invariant-loop
-invariant-loop text start end byte stop at₀ at = Seeking text start stop byte at
+abbrev invariant_loop : tie.invariant-loop
+invariant_loop text start end byte stop at₀ at = Seeking text start stop byte at
 
-abbrev decreases-loop : tie.decreases-loop
-decreases-loop text start end byte stop at₀ at = stop - at
+abbrev decreases_loop : tie.decreases-loop
+decreases_loop text start end byte stop at₀ at = stop - at
 
-least-requires : tie.Need-least-requires invariant-loop decreases-loop
-least-requires c κs = search rules
+least_requires : tie.Need-least-requires invariant_loop decreases_loop
+least_requires c κs = search rules
 
-loop-holds : tie.Need-loop-init invariant-loop decreases-loop
-loop-holds c = seek-start _ _ _ _ (c.least.ensures.second)
+loop_holds : tie.Need-loop-init invariant_loop decreases_loop
+loop_holds c = seek_start _ _ _ _ (c.least.ensures.second)
 
-shared-slice-read-if1 : tie.Need-shared-slice-read-if1 invariant-loop decreases-loop
-shared-slice-read-if1 c = search rules
+shared_slice_read_if1 : tie.Need-shared-slice-read-if1 invariant_loop decreases_loop
+shared_slice_read_if1 c = search rules
 
-returns : tie.Need-returns invariant-loop decreases-loop
+returns : tie.Need-returns invariant_loop decreases_loop
 returns c = let a = seek_found (c.before.before.before.loop.invariant) (c.before.before.loop-test.true) (c.if1.true) in let b = whole_part c.before.before.before.before.before.before.args.text.now (c.before.before.before.before.before.before.args.start) (c.before.before.before.before.before.before.args.end) (c.before.before.before.before.before.before.args.byte) (c.before.before.before.before.least.ensures) in omega arith
 
-add_at : tie.Need-overflow-add-at invariant-loop decreases-loop
+add_at : tie.Need-overflow-add-at invariant_loop decreases_loop
 add_at c = search rules
 
-loop-less : tie.Need-loop-smaller invariant-loop decreases-loop
-loop-less c = search rules
+loop_less : tie.Need-loop-smaller invariant_loop decreases_loop
+loop_less c = search rules
 
-loop-again : tie.Need-loop-preserved invariant-loop decreases-loop
-loop-again c = seek-on (c.before.before.before.loop.invariant) (c.before.before.loop-test.true) (c.if1.false)
+loop_again : tie.Need-loop-preserved invariant_loop decreases_loop
+loop_again c = seek_on (c.before.before.before.loop.invariant) (c.before.before.loop-test.true) (c.if1.false)
 
-returns-2 : tie.Need-returns-2 invariant-loop decreases-loop
-returns-2 c = let a = seek-end (c.before.loop.invariant) (c.loop-test.false) in let b = whole_part c.before.before.before.before.args.text.now (c.before.before.before.before.args.start) (c.before.before.before.before.args.end) (c.before.before.before.before.args.byte) (c.before.before.least.ensures) in omega arith
+returns_2 : tie.Need-returns-2 invariant_loop decreases_loop
+returns_2 c = let a = seek_end (c.before.loop.invariant) (c.loop-test.false) in let b = whole_part c.before.before.before.before.args.text.now (c.before.before.before.before.args.start) (c.before.before.before.before.args.end) (c.before.before.before.before.args.byte) (c.before.before.least.ensures) in omega arith
 
-pub find-byte-spec : {M : Type 1} → statement M
-find-byte-spec =
+pub find_byte_spec : {M : Type 1} → statement M
+find_byte_spec =
     tie.close
     (tie.spec
-    invariant-loop
-    decreases-loop
-    least-requires
-    loop-holds
-    shared-slice-read-if1
+    invariant_loop
+    decreases_loop
+    least_requires
+    loop_holds
+    shared_slice_read_if1
     returns
     add_at
-    loop-less
-    loop-again
-    returns-2)
+    loop_less
+    loop_again
+    returns_2)

@@ -7,51 +7,51 @@ use lib.ListN.{length}
 use Rattle.batch_rows.proofs.writer.add_u16s.Statement.{statement}
 use Rattle.batch_rows.proofs.writer.add_u16s.Tie as tie
 
-abbrev invariant-loop : tie.invariant-loop
-invariant-loop out₀ at numbers to₀ i₀ out to i = length out ≡ length out₀
+abbrev invariant_loop : tie.invariant-loop
+invariant_loop out₀ at numbers to₀ i₀ out to i = length out ≡ length out₀
 
-abbrev decreases-loop : tie.decreases-loop
-decreases-loop out₀ at numbers to₀ i₀ out to i = length numbers - i
+abbrev decreases_loop : tie.decreases-loop
+decreases_loop out₀ at numbers to₀ i₀ out to i = length numbers - i
 
-loop-holds : tie.Need-loop-init invariant-loop decreases-loop
-loop-holds c = search rules
+loop_holds : tie.Need-loop-init invariant_loop decreases_loop
+loop_holds c = search rules
 
-mul-add-u16 : tie.Need-overflow-mul-add-u16 invariant-loop decreases-loop
-mul-add-u16 c = search rules
+mul_add_u16 : tie.Need-overflow-mul-add-u16 invariant_loop decreases_loop
+mul_add_u16 c = search rules
 
-shared-slice-read-add-u16 : tie.Need-shared-slice-read-add-u16 invariant-loop decreases-loop
-shared-slice-read-add-u16 c = search rules
+shared_slice_read_add_u16 : tie.Need-shared-slice-read-add-u16 invariant_loop decreases_loop
+shared_slice_read_add_u16 c = search rules
 
-add-u16-requires : tie.Need-add-u16-requires invariant-loop decreases-loop
-add-u16-requires c κs = search rules
+add_u16_requires : tie.Need-add-u16-requires invariant_loop decreases_loop
+add_u16_requires c κs = search rules
 
-add-i : tie.Need-overflow-add-i invariant-loop decreases-loop
-add-i c = search rules
+add_i : tie.Need-overflow-add-i invariant_loop decreases_loop
+add_i c = search rules
 
-loop-less : tie.Need-loop-smaller invariant-loop decreases-loop
-loop-less c = search rules
+loop_less : tie.Need-loop-smaller invariant_loop decreases_loop
+loop_less c = search rules
 
-loop-again : tie.Need-loop-preserved invariant-loop decreases-loop
-loop-again c = search rules
+loop_again : tie.Need-loop-preserved invariant_loop decreases_loop
+loop_again c = search rules
 
-same_length : tie.Need-same-length invariant-loop decreases-loop
+same_length : tie.Need-same-length invariant_loop decreases_loop
 same_length c = search rules
 
-returns : tie.Need-returns invariant-loop decreases-loop
+returns : tie.Need-returns invariant_loop decreases_loop
 returns c = search rules
 
-pub add-u16s-spec : {M : Type 1} → statement M
-add-u16s-spec =
+pub add_u16s_spec : {M : Type 1} → statement M
+add_u16s_spec =
     tie.close
     (tie.spec
-    invariant-loop
-    decreases-loop
-    loop-holds
-    mul-add-u16
-    shared-slice-read-add-u16
-    add-u16-requires
-    add-i
-    loop-less
-    loop-again
+    invariant_loop
+    decreases_loop
+    loop_holds
+    mul_add_u16
+    shared_slice_read_add_u16
+    add_u16_requires
+    add_i
+    loop_less
+    loop_again
     same_length
     returns)

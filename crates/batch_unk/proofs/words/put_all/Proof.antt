@@ -6,55 +6,55 @@ use lib.ListN.{length}
 use Rattle.batch_unk.proofs.words.put_all.Statement.{statement}
 use Rattle.batch_unk.proofs.words.put_all.Tie as tie
 
-abbrev invariant-loop : tie.invariant-loop
-invariant-loop numbers categories count entries offsets details places members next₀ next = Unit {0}
+abbrev invariant_loop : tie.invariant-loop
+invariant_loop numbers categories count entries offsets details places members next₀ next = Unit {0}
 
-abbrev decreases-loop : tie.decreases-loop
-decreases-loop numbers categories count entries offsets details places members next₀ next = length numbers - next
+abbrev decreases_loop : tie.decreases-loop
+decreases_loop numbers categories count entries offsets details places members next₀ next = length numbers - next
 
-loop-holds : tie.Need-loop-init invariant-loop decreases-loop
-loop-holds c = search rules
+loop_holds : tie.Need-loop-init invariant_loop decreases_loop
+loop_holds c = search rules
 
-get-u32-requires : tie.Need-get-u32-requires invariant-loop decreases-loop
-get-u32-requires c κs = search rules
+get_u32_requires : tie.Need-get-u32-requires invariant_loop decreases_loop
+get_u32_requires c κs = search rules
 
-cast-id : tie.Need-overflow-cast-id invariant-loop decreases-loop
-cast-id c = search rules
+cast_id : tie.Need-overflow-cast-id invariant_loop decreases_loop
+cast_id c = search rules
 
-put-ids-requires : tie.Need-put-ids-requires invariant-loop decreases-loop
-put-ids-requires c κs = search rules
+put_ids_requires : tie.Need-put-ids-requires invariant_loop decreases_loop
+put_ids_requires c κs = search rules
 
-put-entry-requires : tie.Need-put-entry-requires invariant-loop decreases-loop
-put-entry-requires c κs = search rules
+put_entry_requires : tie.Need-put-entry-requires invariant_loop decreases_loop
+put_entry_requires c κs = search rules
 
-put-details-requires : tie.Need-put-details-requires invariant-loop decreases-loop
-put-details-requires c κs = search rules
+put_details_requires : tie.Need-put-details-requires invariant_loop decreases_loop
+put_details_requires c κs = search rules
 
-add-next : tie.Need-overflow-add-next invariant-loop decreases-loop
-add-next c = search rules
+add_next : tie.Need-overflow-add-next invariant_loop decreases_loop
+add_next c = search rules
 
-loop-less : tie.Need-loop-smaller invariant-loop decreases-loop
-loop-less c = search rules
+loop_less : tie.Need-loop-smaller invariant_loop decreases_loop
+loop_less c = search rules
 
-loop-again : tie.Need-loop-preserved invariant-loop decreases-loop
-loop-again c = search rules
+loop_again : tie.Need-loop-preserved invariant_loop decreases_loop
+loop_again c = search rules
 
-returns : tie.Need-returns invariant-loop decreases-loop
+returns : tie.Need-returns invariant_loop decreases_loop
 returns c = search rules
 
-pub put-all-spec : {M : Type 1} → statement M
-put-all-spec =
+pub put_all_spec : {M : Type 1} → statement M
+put_all_spec =
     tie.close
     (tie.spec
-    invariant-loop
-    decreases-loop
-    loop-holds
-    get-u32-requires
-    cast-id
-    put-ids-requires
-    put-entry-requires
-    put-details-requires
-    add-next
-    loop-less
-    loop-again
+    invariant_loop
+    decreases_loop
+    loop_holds
+    get_u32_requires
+    cast_id
+    put_ids_requires
+    put_entry_requires
+    put_details_requires
+    add_next
+    loop_less
+    loop_again
     returns)

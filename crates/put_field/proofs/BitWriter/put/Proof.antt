@@ -3,84 +3,84 @@
 use native.Mathlib.Omega.{arith}
 use borrow.Author.Rules.{rules}
 use Rattle.field.proofs.Window.{mask_is}
-use Rattle.put_field.proofs.Bits.{joined-up}
-use Rattle.put_field.proofs.Writing.{Emits, emits_none, emits-more, emits-all}
+use Rattle.put_field.proofs.Bits.{joined_up}
+use Rattle.put_field.proofs.Writing.{Emits, emits_none, emits_more, emits_all}
 use Rattle.put_field.proofs.BitWriter.put.Statement.{statement}
 use Rattle.put_field.proofs.BitWriter.put.Tie as tie
 
-abbrev invariant-loop : tie.invariant-loop
-invariant-loop out₀ width value one low kept held at₀ left₀ out at left = Emits out₀ at₀ left₀ held out at left
+abbrev invariant_loop : tie.invariant-loop
+invariant_loop out₀ width value one low kept held at₀ left₀ out at left = Emits out₀ at₀ left₀ held out at left
 
-abbrev decreases-loop : tie.decreases-loop
-decreases-loop out₀ width value one low kept held at₀ left₀ out at left = left
+abbrev decreases_loop : tie.decreases-loop
+decreases_loop out₀ width value one low kept held at₀ left₀ out at left = left
 
-shl-low : tie.Need-overflow-shl-low invariant-loop decreases-loop
-shl-low c = omega arith
+shl_low : tie.Need-overflow-shl-low invariant_loop decreases_loop
+shl_low c = omega arith
 
-sub_low : tie.Need-overflow-sub-low invariant-loop decreases-loop
+sub_low : tie.Need-overflow-sub-low invariant_loop decreases_loop
 sub_low c = mask_is _ (omega arith)
 
-wide-requires : tie.Need-wide-requires invariant-loop decreases-loop
-wide-requires c κs = search rules
+wide_requires : tie.Need-wide-requires invariant_loop decreases_loop
+wide_requires c κs = search rules
 
-shl-held : tie.Need-overflow-shl-held invariant-loop decreases-loop
-shl-held c = omega arith
+shl_held : tie.Need-overflow-shl-held invariant_loop decreases_loop
+shl_held c = omega arith
 
-add_left : tie.Need-overflow-add-left invariant-loop decreases-loop
+add_left : tie.Need-overflow-add-left invariant_loop decreases_loop
 add_left c = omega arith
 
-loop-holds : tie.Need-loop-init invariant-loop decreases-loop
-loop-holds c = emits_none _ _ _ _ (omega arith)
+loop_holds : tie.Need-loop-init invariant_loop decreases_loop
+loop_holds c = emits_none _ _ _ _ (omega arith)
 
-shr-out : tie.Need-overflow-shr-out invariant-loop decreases-loop
-shr-out c = omega (arith, c.before.loop.invariant.writes.on)
+shr_out : tie.Need-overflow-shr-out invariant_loop decreases_loop
+shr_out c = omega (arith, c.before.loop.invariant.writes.on)
 
-cast-out : tie.Need-overflow-cast-out invariant-loop decreases-loop
-cast-out c = omega arith
+cast_out : tie.Need-overflow-cast-out invariant_loop decreases_loop
+cast_out c = omega arith
 
-slice-write-out : tie.Need-slice-write-out invariant-loop decreases-loop
-slice-write-out c = omega arith
+slice_write_out : tie.Need-slice-write-out invariant_loop decreases_loop
+slice_write_out c = omega arith
 
-add_at : tie.Need-overflow-add-at invariant-loop decreases-loop
+add_at : tie.Need-overflow-add-at invariant_loop decreases_loop
 add_at c = omega arith
 
-loop-less : tie.Need-loop-smaller invariant-loop decreases-loop
-loop-less c = omega arith
+loop_less : tie.Need-loop-smaller invariant_loop decreases_loop
+loop_less c = omega arith
 
-loop-again : tie.Need-loop-preserved invariant-loop decreases-loop
-loop-again c = emits-more c.before.loop.invariant (omega arith) (omega arith)
+loop_again : tie.Need-loop-preserved invariant_loop decreases_loop
+loop_again c = emits_more c.before.loop.invariant (omega arith) (omega arith)
 
-cast-rest : tie.Need-overflow-cast-rest invariant-loop decreases-loop
-cast-rest c = omega arith
+cast_rest : tie.Need-overflow-cast-rest invariant_loop decreases_loop
+cast_rest c = omega arith
 
-same_length : tie.Need-same-length invariant-loop decreases-loop
+same_length : tie.Need-same-length invariant_loop decreases_loop
 same_length c = c.before.loop.invariant.same_length
 
-returns : tie.Need-returns invariant-loop decreases-loop
+returns : tie.Need-returns invariant_loop decreases_loop
 returns c =
     let b = c.before.before.before in
     let self = b.before.before.args.self in
-    let e = joined-up b.wide.result self.held b.before.before.args.value b.before.before.args.width b.wide.ensures (omega arith) (omega arith) in
-    emits-all _ self _ _ _ (omega (arith, e)) c.before.loop.invariant (omega arith)
+    let e = joined_up b.wide.result self.held b.before.before.args.value b.before.before.args.width b.wide.ensures (omega arith) (omega arith) in
+    emits_all _ self _ _ _ (omega (arith, e)) c.before.loop.invariant (omega arith)
 
 pub put_spec : {M : Type 1} → statement M
 put_spec =
     tie.close
     (tie.spec
-    invariant-loop
-    decreases-loop
-    shl-low
+    invariant_loop
+    decreases_loop
+    shl_low
     sub_low
-    wide-requires
-    shl-held
+    wide_requires
+    shl_held
     add_left
-    loop-holds
-    shr-out
-    cast-out
-    slice-write-out
+    loop_holds
+    shr_out
+    cast_out
+    slice_write_out
     add_at
-    loop-less
-    loop-again
-    cast-rest
+    loop_less
+    loop_again
+    cast_rest
     same_length
     returns)

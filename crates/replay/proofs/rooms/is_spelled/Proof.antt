@@ -4,55 +4,55 @@ use Rattle.std.proofs.Common.{◌-◌, length, rules}
 use Rattle.replay.proofs.rooms.is_spelled.Statement.{statement}
 use Rattle.replay.proofs.rooms.is_spelled.Tie as tie
 
-abbrev invariant-loop : tie.invariant-loop
-invariant-loop list start end room at₀ at = Unit {0}
+abbrev invariant_loop : tie.invariant-loop
+invariant_loop list start end room at₀ at = Unit {0}
 
-abbrev decreases-loop : tie.decreases-loop
-decreases-loop list start end room at₀ at = length room - at
+abbrev decreases_loop : tie.decreases-loop
+decreases_loop list start end room at₀ at = length room - at
 
-loop-holds : tie.Need-loop-init invariant-loop decreases-loop
-loop-holds c = search rules
+loop_holds : tie.Need-loop-init invariant_loop decreases_loop
+loop_holds c = search rules
 
-sub-if1 : tie.Need-overflow-sub-if1 invariant-loop decreases-loop
-sub-if1 c = search rules
+sub_if1 : tie.Need-overflow-sub-if1 invariant_loop decreases_loop
+sub_if1 c = search rules
 
-returns : tie.Need-returns invariant-loop decreases-loop
+returns : tie.Need-returns invariant_loop decreases_loop
 returns c = search rules
 
-shared-slice-read-if2 : tie.Need-shared-slice-read-if2 invariant-loop decreases-loop
-shared-slice-read-if2 c = search rules
+shared_slice_read_if2 : tie.Need-shared-slice-read-if2 invariant_loop decreases_loop
+shared_slice_read_if2 c = search rules
 
-spelled-byte-requires : tie.Need-spelled-byte-requires invariant-loop decreases-loop
-spelled-byte-requires c κs = search rules
+spelled_byte_requires : tie.Need-spelled-byte-requires invariant_loop decreases_loop
+spelled_byte_requires c κs = search rules
 
-returns-2 : tie.Need-returns-2 invariant-loop decreases-loop
-returns-2 c = search rules
+returns_2 : tie.Need-returns-2 invariant_loop decreases_loop
+returns_2 c = search rules
 
-add_at : tie.Need-overflow-add-at invariant-loop decreases-loop
+add_at : tie.Need-overflow-add-at invariant_loop decreases_loop
 add_at c = search rules
 
-loop-less : tie.Need-loop-smaller invariant-loop decreases-loop
-loop-less c = search rules
+loop_less : tie.Need-loop-smaller invariant_loop decreases_loop
+loop_less c = search rules
 
-loop-again : tie.Need-loop-preserved invariant-loop decreases-loop
-loop-again c = search rules
+loop_again : tie.Need-loop-preserved invariant_loop decreases_loop
+loop_again c = search rules
 
-returns-3 : tie.Need-returns-3 invariant-loop decreases-loop
-returns-3 c = search rules
+returns_3 : tie.Need-returns-3 invariant_loop decreases_loop
+returns_3 c = search rules
 
-pub is-spelled-spec : {M : Type 1} → statement M
-is-spelled-spec =
+pub is_spelled_spec : {M : Type 1} → statement M
+is_spelled_spec =
     tie.close
     (tie.spec
-    invariant-loop
-    decreases-loop
-    loop-holds
-    sub-if1
+    invariant_loop
+    decreases_loop
+    loop_holds
+    sub_if1
     returns
-    shared-slice-read-if2
-    spelled-byte-requires
-    returns-2
+    shared_slice_read_if2
+    spelled_byte_requires
+    returns_2
     add_at
-    loop-less
-    loop-again
-    returns-3)
+    loop_less
+    loop_again
+    returns_3)

@@ -4,51 +4,51 @@ use Rattle.std.proofs.Common.{◌-◌, length, rules}
 use Rattle.replay_line.proofs.words.same.Statement.{statement}
 use Rattle.replay_line.proofs.words.same.Tie as tie
 
-abbrev invariant-loop : tie.invariant-loop
-invariant-loop a b at₀ at = Unit {0}
+abbrev invariant_loop : tie.invariant-loop
+invariant_loop a b at₀ at = Unit {0}
 
-abbrev decreases-loop : tie.decreases-loop
-decreases-loop a b at₀ at = length a - at
+abbrev decreases_loop : tie.decreases-loop
+decreases_loop a b at₀ at = length a - at
 
-returns : tie.Need-returns invariant-loop decreases-loop
+returns : tie.Need-returns invariant_loop decreases_loop
 returns c = search rules
 
-loop-holds : tie.Need-loop-init invariant-loop decreases-loop
-loop-holds c = search rules
+loop_holds : tie.Need-loop-init invariant_loop decreases_loop
+loop_holds c = search rules
 
-byte-at-requires : tie.Need-byte-at-requires invariant-loop decreases-loop
-byte-at-requires c κs = search rules
+byte_at_requires : tie.Need-byte-at-requires invariant_loop decreases_loop
+byte_at_requires c κs = search rules
 
-shared-slice-read-if2 : tie.Need-shared-slice-read-if2 invariant-loop decreases-loop
-shared-slice-read-if2 c = search rules
+shared_slice_read_if2 : tie.Need-shared-slice-read-if2 invariant_loop decreases_loop
+shared_slice_read_if2 c = search rules
 
-returns-2 : tie.Need-returns-2 invariant-loop decreases-loop
-returns-2 c = search rules
+returns_2 : tie.Need-returns-2 invariant_loop decreases_loop
+returns_2 c = search rules
 
-add_at : tie.Need-overflow-add-at invariant-loop decreases-loop
+add_at : tie.Need-overflow-add-at invariant_loop decreases_loop
 add_at c = search rules
 
-loop-less : tie.Need-loop-smaller invariant-loop decreases-loop
-loop-less c = search rules
+loop_less : tie.Need-loop-smaller invariant_loop decreases_loop
+loop_less c = search rules
 
-loop-again : tie.Need-loop-preserved invariant-loop decreases-loop
-loop-again c = search rules
+loop_again : tie.Need-loop-preserved invariant_loop decreases_loop
+loop_again c = search rules
 
-returns-3 : tie.Need-returns-3 invariant-loop decreases-loop
-returns-3 c = search rules
+returns_3 : tie.Need-returns-3 invariant_loop decreases_loop
+returns_3 c = search rules
 
 pub same_spec : {M : Type 1} → statement M
 same_spec =
     tie.close
     (tie.spec
-    invariant-loop
-    decreases-loop
+    invariant_loop
+    decreases_loop
     returns
-    loop-holds
-    byte-at-requires
-    shared-slice-read-if2
-    returns-2
+    loop_holds
+    byte_at_requires
+    shared_slice_read_if2
+    returns_2
     add_at
-    loop-less
-    loop-again
-    returns-3)
+    loop_less
+    loop_again
+    returns_3)

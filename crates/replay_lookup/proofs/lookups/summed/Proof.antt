@@ -4,39 +4,39 @@ use Rattle.std.proofs.Common.{◌-◌, rules}
 use Rattle.replay_lookup.proofs.lookups.summed.Statement.{statement}
 use Rattle.replay_lookup.proofs.lookups.summed.Tie as tie
 
-abbrev invariant-loop : tie.invariant-loop
-invariant-loop index flat boundaries starts lengths pool total₀ code₀ total code = Unit {0}
+abbrev invariant_loop : tie.invariant-loop
+invariant_loop index flat boundaries starts lengths pool total₀ code₀ total code = Unit {0}
 
-abbrev decreases-loop : tie.decreases-loop
-decreases-loop index flat boundaries starts lengths pool total₀ code₀ total code = 65536 - code
+abbrev decreases_loop : tie.decreases-loop
+decreases_loop index flat boundaries starts lengths pool total₀ code₀ total code = 65536 - code
 
-loop-holds : tie.Need-loop-init invariant-loop decreases-loop
-loop-holds c = search rules
+loop_holds : tie.Need-loop-init invariant_loop decreases_loop
+loop_holds c = search rules
 
-code-summed-requires : tie.Need-code-summed-requires invariant-loop decreases-loop
-code-summed-requires c κs = search rules
+code_summed_requires : tie.Need-code-summed-requires invariant_loop decreases_loop
+code_summed_requires c κs = search rules
 
-add-code : tie.Need-overflow-add-code invariant-loop decreases-loop
-add-code c = search rules
+add_code : tie.Need-overflow-add-code invariant_loop decreases_loop
+add_code c = search rules
 
-loop-less : tie.Need-loop-smaller invariant-loop decreases-loop
-loop-less c = search rules
+loop_less : tie.Need-loop-smaller invariant_loop decreases_loop
+loop_less c = search rules
 
-loop-again : tie.Need-loop-preserved invariant-loop decreases-loop
-loop-again c = search rules
+loop_again : tie.Need-loop-preserved invariant_loop decreases_loop
+loop_again c = search rules
 
-returns : tie.Need-returns invariant-loop decreases-loop
+returns : tie.Need-returns invariant_loop decreases_loop
 returns c = search rules
 
-pub summed-spec : {M : Type 1} → statement M
-summed-spec =
+pub summed_spec : {M : Type 1} → statement M
+summed_spec =
     tie.close
     (tie.spec
-    invariant-loop
-    decreases-loop
-    loop-holds
-    code-summed-requires
-    add-code
-    loop-less
-    loop-again
+    invariant_loop
+    decreases_loop
+    loop_holds
+    code_summed_requires
+    add_code
+    loop_less
+    loop_again
     returns)

@@ -4,59 +4,59 @@ use Rattle.std.proofs.Common.{◌≡◌, ◌-◌, length, rules}
 use Rattle.replay_rows.proofs.flats.all_agree.Statement.{statement}
 use Rattle.replay_rows.proofs.flats.all_agree.Tie as tie
 
-abbrev invariant-loop : tie.invariant-loop
-invariant-loop list reading counts c index₀ pool₀ a₀ k₀ index pool a k = (length index ≡ length index₀) × (length pool ≡ length pool₀)
+abbrev invariant_loop : tie.invariant-loop
+invariant_loop list reading counts c index₀ pool₀ a₀ k₀ index pool a k = (length index ≡ length index₀) × (length pool ≡ length pool₀)
 
-abbrev decreases-loop : tie.decreases-loop
-decreases-loop list reading counts c index₀ pool₀ a₀ k₀ index pool a k = 4 - k
+abbrev decreases_loop : tie.decreases-loop
+decreases_loop list reading counts c index₀ pool₀ a₀ k₀ index pool a k = 4 - k
 
-loop-holds : tie.Need-loop-init invariant-loop decreases-loop
-loop-holds c = search rules
+loop_holds : tie.Need-loop-init invariant_loop decreases_loop
+loop_holds c = search rules
 
-tried-requires : tie.Need-tried-requires invariant-loop decreases-loop
-tried-requires c κs = search rules
+tried_requires : tie.Need-tried-requires invariant_loop decreases_loop
+tried_requires c κs = search rules
 
-same_length : tie.Need-same-length invariant-loop decreases-loop
+same_length : tie.Need-same-length invariant_loop decreases_loop
 same_length c = search rules
 
-same-length-2 : tie.Need-same-length-2 invariant-loop decreases-loop
-same-length-2 c = search rules
+same_length_2 : tie.Need-same-length-2 invariant_loop decreases_loop
+same_length_2 c = search rules
 
-returns : tie.Need-returns invariant-loop decreases-loop
+returns : tie.Need-returns invariant_loop decreases_loop
 returns c = search rules
 
-add-k : tie.Need-overflow-add-k invariant-loop decreases-loop
-add-k c = search rules
+add_k : tie.Need-overflow-add-k invariant_loop decreases_loop
+add_k c = search rules
 
-loop-less : tie.Need-loop-smaller invariant-loop decreases-loop
-loop-less c = search rules
+loop_less : tie.Need-loop-smaller invariant_loop decreases_loop
+loop_less c = search rules
 
-loop-again : tie.Need-loop-preserved invariant-loop decreases-loop
-loop-again c = search rules
+loop_again : tie.Need-loop-preserved invariant_loop decreases_loop
+loop_again c = search rules
 
-same-length-3 : tie.Need-same-length-3 invariant-loop decreases-loop
-same-length-3 c = search rules
+same_length_3 : tie.Need-same-length-3 invariant_loop decreases_loop
+same_length_3 c = search rules
 
-same-length-4 : tie.Need-same-length-4 invariant-loop decreases-loop
-same-length-4 c = search rules
+same_length_4 : tie.Need-same-length-4 invariant_loop decreases_loop
+same_length_4 c = search rules
 
-returns-2 : tie.Need-returns-2 invariant-loop decreases-loop
-returns-2 c = search rules
+returns_2 : tie.Need-returns-2 invariant_loop decreases_loop
+returns_2 c = search rules
 
-pub all-agree-spec : {M : Type 1} → statement M
-all-agree-spec =
+pub all_agree_spec : {M : Type 1} → statement M
+all_agree_spec =
     tie.close
     (tie.spec
-    invariant-loop
-    decreases-loop
-    loop-holds
-    tried-requires
+    invariant_loop
+    decreases_loop
+    loop_holds
+    tried_requires
     same_length
-    same-length-2
+    same_length_2
     returns
-    add-k
-    loop-less
-    loop-again
-    same-length-3
-    same-length-4
-    returns-2)
+    add_k
+    loop_less
+    loop_again
+    same_length_3
+    same_length_4
+    returns_2)

@@ -7,47 +7,47 @@ use Prim.Native.Nat.{◌-◌}
 use Rattle.say.proofs.Report.bytes.Statement.{statement}
 use Rattle.say.proofs.Report.bytes.Tie as tie
 
-abbrev invariant-loop : tie.invariant-loop
-invariant-loop room₀ s next₀ i₀ room next i = length room ≡ length room₀
+abbrev invariant_loop : tie.invariant-loop
+invariant_loop room₀ s next₀ i₀ room next i = length room ≡ length room₀
 
-abbrev decreases-loop : tie.decreases-loop
-decreases-loop room₀ s next₀ i₀ room next i = length s - i
+abbrev decreases_loop : tie.decreases-loop
+decreases_loop room₀ s next₀ i₀ room next i = length s - i
 
-loop-holds : tie.Need-loop-init invariant-loop decreases-loop
-loop-holds c = search rules
+loop_holds : tie.Need-loop-init invariant_loop decreases_loop
+loop_holds c = search rules
 
-shared-slice-read-byte : tie.Need-shared-slice-read-byte invariant-loop decreases-loop
-shared-slice-read-byte c = search rules
+shared_slice_read_byte : tie.Need-shared-slice-read-byte invariant_loop decreases_loop
+shared_slice_read_byte c = search rules
 
-byte-requires : tie.Need-byte-requires invariant-loop decreases-loop
-byte-requires c κs = search rules
+byte_requires : tie.Need-byte-requires invariant_loop decreases_loop
+byte_requires c κs = search rules
 
-add-i : tie.Need-overflow-add-i invariant-loop decreases-loop
-add-i c = search rules
+add_i : tie.Need-overflow-add-i invariant_loop decreases_loop
+add_i c = search rules
 
-loop-less : tie.Need-loop-smaller invariant-loop decreases-loop
-loop-less c = search rules
+loop_less : tie.Need-loop-smaller invariant_loop decreases_loop
+loop_less c = search rules
 
-loop-again : tie.Need-loop-preserved invariant-loop decreases-loop
-loop-again c = search rules
+loop_again : tie.Need-loop-preserved invariant_loop decreases_loop
+loop_again c = search rules
 
-same_length : tie.Need-same-length invariant-loop decreases-loop
+same_length : tie.Need-same-length invariant_loop decreases_loop
 same_length c = search rules
 
-returns : tie.Need-returns invariant-loop decreases-loop
+returns : tie.Need-returns invariant_loop decreases_loop
 returns c = search rules
 
-pub bytes-spec : {M : Type 1} → statement M
-bytes-spec =
+pub bytes_spec : {M : Type 1} → statement M
+bytes_spec =
     tie.close
     (tie.spec
-    invariant-loop
-    decreases-loop
-    loop-holds
-    shared-slice-read-byte
-    byte-requires
-    add-i
-    loop-less
-    loop-again
+    invariant_loop
+    decreases_loop
+    loop_holds
+    shared_slice_read_byte
+    byte_requires
+    add_i
+    loop_less
+    loop_again
     same_length
     returns)

@@ -9,18 +9,18 @@ use Rattle.say.proofs.Report.flush.Tie as tie
 returns : tie.Need-returns
 returns c = search rules
 
-slice-aggregate-write-all : tie.Need-slice-aggregate-write-all
-slice-aggregate-write-all c = simp length-take (omega arith)
+slice_aggregate_write_all : tie.Need-slice-aggregate-write-all
+slice_aggregate_write_all c = simp length-take (omega arith)
 
-write-all-requires : tie.Need-write-all-requires
-write-all-requires c κs = search rules
+write_all_requires : tie.Need-write-all-requires
+write_all_requires c κs = search rules
 
-returns-2 : tie.Need-returns-2
-returns-2 c = search rules
+returns_2 : tie.Need-returns-2
+returns_2 c = search rules
 
-returns-3 : tie.Need-returns-3
-returns-3 c = search rules
+returns_3 : tie.Need-returns-3
+returns_3 c = search rules
 
-pub flush-spec : {M : Type 1} → statement M
-flush-spec =
-    tie.close (tie.spec returns slice-aggregate-write-all write-all-requires returns-2 returns-3)
+pub flush_spec : {M : Type 1} → statement M
+flush_spec =
+    tie.close (tie.spec returns slice_aggregate_write_all write_all_requires returns_2 returns_3)

@@ -8,8 +8,8 @@ use Rattle.try_pack.proofs.writer.part_of.Tie as tie
 returns : tie.Need-returns
 returns c = prefix_len_of_le _ _ (omega arith)
 
-returns-2 : tie.Need-returns-2
-returns-2 c = prefix_len_of_le _ _ (omega arith)
+returns_2 : tie.Need-returns-2
+returns_2 c = prefix_len_of_le _ _ (omega arith)
 
-pub part-of-spec : {M : Type 1} → statement M
-part-of-spec = tie.close (tie.spec returns returns-2)
+pub part_of_spec : {M : Type 1} → statement M
+part_of_spec = tie.close (tie.spec returns returns_2)

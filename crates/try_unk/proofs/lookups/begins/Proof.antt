@@ -4,47 +4,47 @@ use Rattle.std.proofs.Common.{◌-◌, length, rules}
 use Rattle.try_unk.proofs.lookups.begins.Statement.{statement}
 use Rattle.try_unk.proofs.lookups.begins.Tie as tie
 
-abbrev invariant-loop : tie.invariant-loop
-invariant-loop list start part k₀ k = Unit {0}
+abbrev invariant_loop : tie.invariant-loop
+invariant_loop list start part k₀ k = Unit {0}
 
-abbrev decreases-loop : tie.decreases-loop
-decreases-loop list start part k₀ k = length part - k
+abbrev decreases_loop : tie.decreases-loop
+decreases_loop list start part k₀ k = length part - k
 
-loop-holds : tie.Need-loop-init invariant-loop decreases-loop
-loop-holds c = search rules
+loop_holds : tie.Need-loop-init invariant_loop decreases_loop
+loop_holds c = search rules
 
-shared-slice-read-if1 : tie.Need-shared-slice-read-if1 invariant-loop decreases-loop
-shared-slice-read-if1 c = search rules
+shared_slice_read_if1 : tie.Need-shared-slice-read-if1 invariant_loop decreases_loop
+shared_slice_read_if1 c = search rules
 
-spelled-byte-requires : tie.Need-spelled-byte-requires invariant-loop decreases-loop
-spelled-byte-requires c κs = search rules
+spelled_byte_requires : tie.Need-spelled-byte-requires invariant_loop decreases_loop
+spelled_byte_requires c κs = search rules
 
-returns : tie.Need-returns invariant-loop decreases-loop
+returns : tie.Need-returns invariant_loop decreases_loop
 returns c = search rules
 
-add-k : tie.Need-overflow-add-k invariant-loop decreases-loop
-add-k c = search rules
+add_k : tie.Need-overflow-add-k invariant_loop decreases_loop
+add_k c = search rules
 
-loop-less : tie.Need-loop-smaller invariant-loop decreases-loop
-loop-less c = search rules
+loop_less : tie.Need-loop-smaller invariant_loop decreases_loop
+loop_less c = search rules
 
-loop-again : tie.Need-loop-preserved invariant-loop decreases-loop
-loop-again c = search rules
+loop_again : tie.Need-loop-preserved invariant_loop decreases_loop
+loop_again c = search rules
 
-returns-2 : tie.Need-returns-2 invariant-loop decreases-loop
-returns-2 c = search rules
+returns_2 : tie.Need-returns-2 invariant_loop decreases_loop
+returns_2 c = search rules
 
-pub begins-spec : {M : Type 1} → statement M
-begins-spec =
+pub begins_spec : {M : Type 1} → statement M
+begins_spec =
     tie.close
     (tie.spec
-    invariant-loop
-    decreases-loop
-    loop-holds
-    shared-slice-read-if1
-    spelled-byte-requires
+    invariant_loop
+    decreases_loop
+    loop_holds
+    shared_slice_read_if1
+    spelled_byte_requires
     returns
-    add-k
-    loop-less
-    loop-again
-    returns-2)
+    add_k
+    loop_less
+    loop_again
+    returns_2)
