@@ -9,7 +9,7 @@ ghost use Rattle.cover.specs.Fallback.{fallback_row};
 use table::{COUNT_AT, FIRST_AT, RANGE_BYTES, REFERENCE_BYTES, UPPER_AT};
 
 // What a row has where its ranges name no category: DEFAULT's number if it is interned.
-#[derive(Drop)]
+#[derive(Clone, Copy)]
 pub enum Fallback {
     Category(u16),
     Nothing,

@@ -46,7 +46,7 @@ const BYTE_VALUES: u64 = 256;
 const LAST_PLACE: usize = 18446744073709551615;
 
 // A bit position in a pack.
-#[derive(Drop)]
+#[derive(Clone, Copy)]
 pub struct BitCursor {
     pub at: usize,
 }

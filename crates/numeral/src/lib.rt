@@ -58,7 +58,7 @@ pub enum Signed {
 }
 
 // A bound of a range, or the number of its refusal. What is read of 16 bits keeps within 16 bits.
-#[derive(Drop)]
+#[derive(Clone, Copy)]
 pub enum Bound {
     Code(u16),
     NoBound(u32),

@@ -19,7 +19,7 @@ use paper::{
 const VERSION: u32 = 1;
 
 // What the head says; of no use but to bound loops.
-#[derive(Drop)]
+#[derive(Clone, Copy)]
 pub struct Head {
     pub categories: usize,
     pub lines: usize,

@@ -31,7 +31,7 @@ pub const LENGTH_BYTES: usize = 4;
 pub const OFFSET_BYTES: usize = 4;
 
 // How many entries there are, and their details' bytes with the lengths before them.
-#[derive(Drop)]
+#[derive(Clone, Copy)]
 pub struct UnkCounts {
     pub entries: usize,
     pub bytes: usize,

@@ -18,7 +18,7 @@ pub const NEAR_BYTES: usize = 1024;
 
 // Where a walk stands: at a boundary, in a window of code points from `from` up to `to`. The slots that have to do with the window are `many`, and
 // stand in a table of their own where that is `held`.
-#[derive(Drop)]
+#[derive(Clone, Copy)]
 pub struct Window {
     pub at: u32,
     pub from: u32,
