@@ -1,4 +1,6 @@
 // The rule on bounds, for packs and for tables that are handed in.
+#![tactic(auto)]
+
 ghost use Rattle.std.specs.Prelude.{◌≡◌};
 ghost use Rattle.paper.specs.Pack.Rules.{is_bound};
 

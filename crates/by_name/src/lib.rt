@@ -1,4 +1,6 @@
 // Finding a category by its name over any tables: nothing is believed of them, so 26 comes first.
+#![tactic(auto)]
+
 ghost use Rattle.std.specs.Prelude.{◌≡◌, false, not, map, ◌*◌, ◌≤◌, length};
 ghost use Rattle.paper.specs.Lists.{any};
 ghost use Rattle.paper.specs.Tables.Layout.{name_slot_size};

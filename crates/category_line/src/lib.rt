@@ -1,5 +1,7 @@
 // A category line of char.def, item 4 of the paper, from the bytes of its body: a name and three numbers, or the number of its refusal. The type of a
 // line's answer stands here too, beneath both of those who give it: range lines are read in `line`, which also tells which kind a line is.
+#![tactic(auto)]
+
 ghost use Rattle.std.specs.Prelude.{◌≡◌, false, take, drop};
 ghost use Rattle.paper.specs.Computed.ReadText.{category_of};
 ghost use Rattle.scan.specs.Marks.{gap_width, words_bytes};

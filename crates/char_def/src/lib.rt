@@ -1,4 +1,6 @@
 // Reads char.def: "Lines", parse. The room and the text are judged, then its lines are read into five lent tables.
+#![tactic(auto)]
+
 ghost use Rattle.char_def.specs.Parse.{Parsed};
 
 use paper::{

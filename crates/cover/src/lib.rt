@@ -1,5 +1,7 @@
 // The distinct categories that the covering ranges name at a code point, in first-seen order, behind a place of a lent slice; where they name none, a
 // fallback. A category was seen where its stamp is the row's.
+#![tactic(auto)]
+
 ghost use Rattle.std.specs.Prelude.{◌≡◌, ◌*◌, ◌≤◌, ◌<◌, length};
 ghost use Rattle.paper.specs.Sizes.{max_categories, max_ranges, max_u32};
 ghost use Rattle.cover.specs.Slots.{slot_got, slots_got, numbers_got, slot_holds, covers_got};

@@ -1,4 +1,6 @@
 // Enters one line of char.def into five lent tables: "Lines", 9 to 13. `lines` walks the lines of a text over it.
+#![tactic(auto)]
+
 ghost use Rattle.std.specs.Prelude.{◌≡◌, ◌+◌, ◌*◌, ◌≤◌, length, take, drop};
 ghost use Rattle.paper.specs.CharDef.Line.{category, range};
 ghost use Rattle.paper.specs.Pack.Fields.{flag};

@@ -1,4 +1,6 @@
 // What C gets of an outcome: one number, and the counts in a lent slice. The entries stand above, in `terminal` and `terminal_unk`.
+#![tactic(auto)]
+
 ghost use Rattle.std.specs.Prelude.{◌≡◌, cond, ◌≤◌, length};
 ghost use Rattle.paper.specs.Tables.Reader.{clears};
 ghost use Rattle.paper.specs.Tables.Lent.{patch, zeroed};

@@ -1,4 +1,6 @@
 // DEFAULT's number: what a row has where its ranges name no category. Both builders look it up once, before they walk.
+#![tactic(auto)]
+
 ghost use Rattle.std.specs.Prelude.{◌≡◌, ◌≤◌};
 ghost use Rattle.paper.specs.Sizes.{max_categories};
 ghost use Rattle.paper.specs.Rows.Covering.{default};

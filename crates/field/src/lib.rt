@@ -1,5 +1,7 @@
 // A bit cursor over a pack: fields are read one after another from a bit position, most significant bit first. Every function takes whatever
 // bytes, position and width it is handed.
+#![tactic(auto)]
+
 ghost use Rattle.std.specs.Prelude.{◌≡◌, ◌+◌, ◌*◌, ◌/◌, ◌≤◌, ◌<◌, length, get_or};
 ghost use Rattle.paper.specs.Pack.Fields.{byte_width};
 ghost use Rattle.paper.specs.Tables.Lent.{patch};

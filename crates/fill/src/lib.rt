@@ -1,5 +1,7 @@
 // The lines of a text read into tables of the sizes: the reading's tables, or zero where a line is refused. `char_def` above judges the room and
 // the text before.
+#![tactic(auto)]
+
 ghost use Rattle.std.specs.Prelude.{◌≡◌, ◌≤◌, length};
 ghost use Rattle.paper.specs.Sizes.{max_text_bytes};
 ghost use Rattle.paper.specs.Tables.Layout.{in_room};

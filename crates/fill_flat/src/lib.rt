@@ -1,5 +1,7 @@
 // One pass over the rows into the flat index and its pool: each row goes behind the one before, and its entry, offset * 256 + length, to the code
 // points from its boundary up to the next.
+#![tactic(auto)]
+
 ghost use Rattle.std.specs.Prelude.{◌≡◌, ◌+◌, ◌≤◌, length};
 ghost use Rattle.paper.specs.Sizes.{bmp_size, max_row_places};
 ghost use Rattle.paper.specs.Rows.Flat.{entry_of};

@@ -1,4 +1,6 @@
 // The search among boundaries: which row a code point has. It takes any boundaries, so that a lookup needs no builder.
+#![tactic(auto)]
+
 ghost use Rattle.find_row.specs.Sought.{RowSought};
 
 // The search: the last boundary at or below c where they rise from 0; over any others some index inside, or 0.

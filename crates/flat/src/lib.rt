@@ -1,5 +1,7 @@
 // The flat table: for each code point of the BMP an entry that says where its categories stand in a pool. One walk finds the exact need and the
 // longest row, a second one fills.
+#![tactic(auto)]
+
 ghost use Rattle.cover.specs.Slots.{slots_got};
 ghost use Rattle.cover.specs.Fallback.{fallback_row};
 ghost use Rattle.fill_rows.specs.Walked.{boundaries_of, rows_of};

@@ -1,5 +1,7 @@
 // What stands in the way of a flat table: a row that is too long, or a lent slice that is too short. By lengths alone, since a test beside the slices
 // is dear to prove.
+#![tactic(auto)]
+
 ghost use Rattle.std.specs.Prelude.{◌≡◌};
 ghost use Rattle.flat_room.specs.Room.{refusal};
 

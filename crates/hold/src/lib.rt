@@ -1,5 +1,7 @@
 // Refusal 26: the one test for all who are handed a reading. Its tables hold together exactly where each is as long as its count says
 // and they keep the pack's rules.
+#![tactic(auto)]
+
 ghost use Rattle.std.specs.Prelude.{◌≡◌, map, ◌*◌, ◌≤◌, ltb, length};
 ghost use Rattle.paper.specs.Lists.{all};
 ghost use Rattle.paper.specs.Computed.HandedIn.{enough, holds};

@@ -1,6 +1,8 @@
 // A line of char.def, item 4 of the paper, from the bytes of a text: blank, a category line, a range line, or the number of its
 // refusal. A line is given by the text and its ends; an end past the text is the text's, and a line that starts behind its end is empty.
 // Range lines are read here, category lines in `category_line`.
+#![tactic(auto)]
+
 ghost use Rattle.std.specs.Prelude.{◌≡◌, true, take, drop};
 ghost use Rattle.paper.specs.CharDef.Line.{begins0x};
 ghost use Rattle.paper.specs.Computed.ReadText.{range_of};

@@ -1,5 +1,7 @@
 // From line to line of a text: "Lines", where a line ends and which comes next. Each line is entered into memory that holds the reading so far;
 // the layers above write the category slots out and keep the room.
+#![tactic(auto)]
+
 ghost use Rattle.std.specs.Prelude.{◌≡◌, ◌+◌, ◌≤◌, length, drop};
 ghost use Rattle.paper.specs.Sizes.{max_text_bytes};
 ghost use Rattle.paper.specs.Lists.{until};

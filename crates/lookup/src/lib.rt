@@ -1,5 +1,7 @@
 // The lookup of a code point's categories over any lent tables, by the flat table or by rows. No table is believed: what would lie outside of one is
 // 26.
+#![tactic(auto)]
+
 ghost use Rattle.std.specs.Prelude.{◌≡◌, ◌<◌, length, get_or};
 ghost use Rattle.paper.specs.Rows.Lookup.{from_zero};
 ghost use Rattle.lookup.specs.Categories.{located, Locates, PartIs};

@@ -1,4 +1,6 @@
 // A number made of all bytes of a name, by which names are told apart before their bytes are compared.
+#![tactic(auto)]
+
 ghost use Rattle.std.specs.Prelude.{◌≡◌, ◌<◌};
 ghost use Rattle.mark.specs.Mark.{mark};
 

@@ -1,4 +1,6 @@
 // Category names while a text is read: the number of a name, which is entered behind the others where it is new. 12 and 13.
+#![tactic(auto)]
+
 ghost use Rattle.std.specs.Prelude.{◌≡◌, ◌+◌, ◌-◌, ◌≤◌, length, take, drop};
 ghost use Rattle.paper.specs.Tables.Lent.{patch};
 ghost use Rattle.name.specs.Names.{Room, Enters};

@@ -1,5 +1,7 @@
 // The rules on names: each has bytes that are well-formed and stands once. For the pack's reader, which asks name by name, and for `hold`,
 // which asks of a whole table.
+#![tactic(auto)]
+
 ghost use Rattle.std.specs.Prelude.{◌≡◌, not, ◌+◌, ◌*◌, ◌≤◌, ◌<◌, length};
 ghost use Rattle.paper.specs.Lists.{all, any, same};
 ghost use Rattle.paper.specs.Computed.Rules.{formed};

@@ -1,5 +1,7 @@
 // What a category's number says over any lent tables, its name and its definition; and the number of a name. No table is believed: what would lie
 // outside of one is 26.
+#![tactic(auto)]
+
 ghost use Rattle.std.specs.Prelude.{◌≡◌};
 ghost use Rattle.paper.specs.Rows.Numbers.{lookup_definition, category_name};
 ghost use Rattle.by_name.specs.Lookup.{FindsCategory};

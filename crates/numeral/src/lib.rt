@@ -1,5 +1,7 @@
 // Numbers, item 2 of the paper: u32 and i32 as Rust's library reads them, and the bounds of ranges. Each reader takes a part of
 // a text; a part that reaches past the text is cut at its end, and one that starts behind its end is empty.
+#![tactic(auto)]
+
 ghost use Rattle.std.specs.Prelude.{◌≡◌, ◌+◌, ◌≤◌, ◌<◌, length, take, drop};
 ghost use Rattle.std.proofs.Math.Option.{some};
 ghost use Rattle.paper.specs.Sizes.{max_u32, max_i32, low_i32};

@@ -1,5 +1,7 @@
 // The pack's reader: the head, the body that it announces, and the padding, which its parts read; what they leave is the reading's tables, and zero
 // where the pack is refused.
+#![tactic(auto)]
+
 ghost use Rattle.std.specs.Prelude.{◌≡◌};
 ghost use Rattle.paper.specs.Computed.ReadPack.{read_pack};
 ghost use Rattle.paper.specs.Tables.Layout.{in_room};

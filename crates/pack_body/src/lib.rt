@@ -1,5 +1,7 @@
 // The body of a pack behind its head: names, definitions and ranges, one after another into their tables. Each field is judged before anything is
 // done with it: a count of the head only says how often a loop may go round, and nothing is sized by it.
+#![tactic(auto)]
+
 ghost use Rattle.std.specs.Prelude.{◌≡◌, ◌+◌, ◌*◌, ◌≤◌, [], length};
 ghost use Rattle.paper.specs.Sizes.{max_category_lines};
 ghost use Rattle.paper.specs.Pack.Fields.{flag, definition_width};

@@ -1,4 +1,6 @@
 // What the readers of a pack's parts share: what they answer, and a field that is held to a limit.
+#![tactic(auto)]
+
 ghost use Rattle.std.specs.Prelude.{◌≡◌, ◌≤◌};
 ghost use Rattle.paper.specs.Sizes.{max_references};
 ghost use Rattle.paper.specs.Computed.ReadPack.{number, count_rule};

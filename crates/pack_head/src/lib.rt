@@ -1,4 +1,6 @@
 // The head of a pack: its version, then its counts, each held to its limit where it is read. What it says is of no use but to bound the loops behind it.
+#![tactic(auto)]
+
 ghost use Rattle.std.specs.Prelude.{◌+◌, ◌≤◌};
 ghost use Rattle.paper.specs.Sizes.{max_categories, max_category_lines};
 ghost use Rattle.paper.specs.Pack.Fields.{head_width};

@@ -1,4 +1,6 @@
 // The names of a pack, one behind another into the store, each judged in its place before the next is read.
+#![tactic(auto)]
+
 ghost use Rattle.std.specs.Prelude.{◌≡◌, ◌+◌, ◌*◌, ◌-◌, ◌≤◌, ◌<◌, [], length, take, drop, set};
 ghost use Rattle.paper.specs.Sizes.{max_categories, max_name_bytes};
 ghost use Rattle.paper.specs.Pack.Fields.{byte_width, name_length_width};

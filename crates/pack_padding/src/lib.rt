@@ -1,4 +1,6 @@
 // The end of a pack: zero bits fill its last byte, and nothing stands behind them.
+#![tactic(auto)]
+
 ghost use Rattle.std.specs.Prelude.{◌≡◌, ◌≤◌};
 ghost use Rattle.paper.specs.Computed.ReadPack.{is_padding};
 ghost use Rattle.field.specs.Cursor.{rest};

@@ -1,4 +1,6 @@
 // The ranges of a pack with their category numbers. Each range reads its own count: the head's total only limits their sum.
+#![tactic(auto)]
+
 ghost use Rattle.std.specs.Prelude.{◌≡◌, ◌+◌, ◌*◌, ◌-◌, ◌≤◌, [], ltb, length};
 ghost use Rattle.paper.specs.Sizes.{max_categories, max_ranges, max_references};
 ghost use Rattle.paper.specs.Numbers.Bytes.{le};

@@ -1,5 +1,7 @@
 // The packed entry of a code point, and one category of the flat pool. The index and the pool are lent, and neither is believed: what would lie outside of
 // one is 26. What the lookup of categories needs besides stands here too: which numbers are scalar values, and how a flat entry is put together.
+#![tactic(auto)]
+
 ghost use Rattle.std.specs.Prelude.{◌≡◌, true, ◌<◌};
 ghost use Rattle.paper.specs.Sizes.{bmp_size};
 ghost use Rattle.paper.specs.Text.Scalar.{is_scalar};

@@ -1,4 +1,6 @@
 // Writes the pack: "The pack", the writer. It tests the tables and the room; the fields go out part by part, and zero bits behind them.
+#![tactic(auto)]
+
 ghost use Rattle.std.specs.Prelude.{◌≡◌, ◌++◌, ◌≤◌, T, length, drop};
 ghost use Rattle.paper.specs.Pack.Fields.{pack_bytes};
 ghost use Rattle.paper.specs.Computed.HandedIn.{decoded, holds};

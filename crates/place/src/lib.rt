@@ -1,4 +1,6 @@
 // Writes where there is a place, so that a walk over short slices only counts; and a row's entry by them. `cover` notes categories by the same writes.
+#![tactic(auto)]
+
 ghost use Rattle.std.specs.Prelude.{◌≡◌, set};
 ghost use Rattle.place.specs.Entered.{Entered};
 

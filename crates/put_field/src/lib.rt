@@ -1,4 +1,6 @@
 // Writes one field of a pack behind another, bit by bit, most significant bit first, into lent memory; and a run of bytes, each a field.
+#![tactic(auto)]
+
 ghost use Rattle.std.specs.Prelude.{◌≡◌, [], ◌∷◌, map, ◌+◌, ◌*◌, ◌≤◌, length, take, drop};
 ghost use Rattle.paper.specs.Pack.Fields.{field, byte_width, length_width};
 ghost use Rattle.put_field.specs.Writer.{Room, Puts};

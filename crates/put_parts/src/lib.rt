@@ -1,4 +1,6 @@
 // Writes the parts of a pack from the tables that it is made of, one behind another: the head, the names, the definitions and the ranges.
+#![tactic(auto)]
+
 ghost use Rattle.std.specs.Prelude.{◌≡◌, map, ◌+◌, ◌*◌, ◌≤◌, ◌<◌, T, eqb, length, get_or, take, drop};
 ghost use Rattle.paper.specs.Lists.{joined, sum};
 ghost use Rattle.paper.specs.Pack.Fields.{flag, byte_width, name_length_width, head_width, definition_width, name_fields, definition_fields, pack_fields};

@@ -1,4 +1,6 @@
 // Writes the ranges of a pack from their two tables, each with its references behind it.
+#![tactic(auto)]
+
 ghost use Rattle.std.specs.Prelude.{[], ◌∷◌, map, ◌+◌, ◌*◌, ◌≤◌, length};
 ghost use Rattle.paper.specs.Lists.{joined, sum};
 ghost use Rattle.paper.specs.Pack.Fields.{field, bound_width, count_width, number_width, range_width, range_fields};

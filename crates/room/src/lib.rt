@@ -1,4 +1,6 @@
 // The room that a reader of the five tables asks for, char.def's and the pack's alike: "Readers ask for room of these full sizes."
+#![tactic(auto)]
+
 ghost use Rattle.std.specs.Prelude.{◌≡◌};
 ghost use Rattle.paper.specs.Tables.Reader.{room_for, cleared};
 

@@ -1,6 +1,8 @@
 // Gaps, words and the body of a line of char.def, found among the bytes of a text without decoding them. A part is given by the text
 // and its ends; an end past the text is the text's, and a part that starts behind its end is empty. Over it stand `category_line` and `line`,
 // and `entry`, which walks the names of a range line.
+#![tactic(auto)]
+
 ghost use Rattle.std.specs.Prelude.{◌≡◌, ◌+◌, ◌<◌, length, take, drop};
 ghost use Rattle.numeral.specs.Asked.{Least};
 ghost use Rattle.scan.specs.Marks.{gap_byte, gap_width};

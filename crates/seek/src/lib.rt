@@ -1,5 +1,7 @@
 // Seeking a name: its bytes compared with those that a store holds at a place, and what a search answers. Names are sought among the
 // slots of a text that is read (`slot`) and over tables handed in (`by_name`).
+#![tactic(auto)]
+
 ghost use Rattle.std.specs.Prelude.{◌≡◌, ◌-◌, ◌≤◌, length, take, drop};
 ghost use Rattle.paper.specs.Lists.{same};
 

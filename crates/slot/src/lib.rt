@@ -1,5 +1,7 @@
 // The names that were read so far in a text: all their bytes stand in one store, one behind another, and a slot for each name says
 // where. Each slot has room for a hint besides, by which a name is found without trying all. All slots are written out in the end.
+#![tactic(auto)]
+
 ghost use Rattle.std.specs.Prelude.{◌≡◌, ◌+◌, ◌*◌, ◌-◌, ◌/◌, ◌%◌, ◌≤◌, ◌<◌, length, take, drop, get_or, set};
 ghost use Rattle.paper.specs.Sizes.{max_categories, max_name_bytes};
 ghost use Rattle.slot.specs.Slots.{slot_unit, hint_unit, with_word, with_hint, hint_of, written};

@@ -1,5 +1,7 @@
 // Lent bytes: numbers with the least byte first, read and written at any place, and zero bytes up to a size. Every function takes
 // whatever place it is handed.
+#![tactic(auto)]
+
 ghost use Rattle.std.specs.Prelude.{◌≡◌, ◌<◌};
 ghost use Rattle.paper.specs.Numbers.Bytes.{le};
 ghost use Rattle.paper.specs.Tables.Lent.{got, patch, zeroed};

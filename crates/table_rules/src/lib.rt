@@ -1,5 +1,7 @@
 // The rules that each table of a reading keeps by itself: name slots and range slots stand one behind another, flags are 0 or 1 and bounds
 // are allowed. `hold` asks them, once it knows that the tables are as long as their counts say.
+#![tactic(auto)]
+
 ghost use Rattle.std.specs.Prelude.{◌≡◌, map, ◌*◌, ◌≤◌, length};
 ghost use Rattle.paper.specs.Lists.{all};
 ghost use Rattle.paper.specs.Computed.HandedIn.{name_slots_stand, slots_stand, flagged};

@@ -1,5 +1,7 @@
 // What C calls: "exported as extern \"C\" on numbers and byte slices". Each entry is the plain function's through one u64, 0 or number + 256 * place,
 // and a lent slice for the counts. Nothing checks what C hands over, so nothing is asked of it.
+#![tactic(auto)]
+
 ghost use Rattle.paper.specs.Computed.ReadPack.{read_pack};
 ghost use Rattle.paper.specs.Computed.ReadText.{read_text};
 ghost use Rattle.paper.specs.Text.Scalar.{LongestPrefix};

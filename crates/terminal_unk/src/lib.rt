@@ -1,5 +1,7 @@
 // What C calls to read unk.def: `parse_unk` over the tables of a reading that are handed in with their counts, through one u64, 0 or
 // number + 256 * place, and a lent slice for the counts of what was read. Nothing checks what C hands over, so nothing is asked of it.
+#![tactic(auto)]
+
 ghost use Rattle.std.specs.Prelude.{◌≡◌, ◌≤◌, length};
 ghost use Rattle.paper.specs.Tables.Lent.{patch};
 ghost use Rattle.terminal_unk.specs.Answer.{unk_counts_size, unk_count_bytes, ExportsUnk};

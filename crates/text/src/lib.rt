@@ -1,4 +1,6 @@
 // UTF-8 by RFC 3629: a class for each byte value, the longest well-formed prefix, the character at a place; and White_Space.
+#![tactic(auto)]
+
 ghost use Rattle.std.specs.Prelude.{◌≡◌, ◌+◌, ◌≤◌, ◌<◌, length, drop, get_or};
 ghost use Rattle.paper.specs.Text.Scalar.{is_white, LongestPrefix};
 ghost use Rattle.paper.specs.Computed.Decode.{two, three, four};

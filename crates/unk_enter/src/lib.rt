@@ -1,4 +1,6 @@
 // Enters one line of unk.def into three lent tables: 23, 24 and 25. The reader in `unk` walks the lines of a text over it.
+#![tactic(auto)]
+
 ghost use Rattle.std.specs.Prelude.{◌≡◌, ◌+◌, ◌*◌, ◌-◌, ◌≤◌, length, take, drop};
 ghost use Rattle.paper.specs.Sizes.{max_categories, max_detail_bytes};
 ghost use Rattle.paper.specs.Computed.ReadUnk.{unk_line_of};

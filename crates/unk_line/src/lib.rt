@@ -1,5 +1,7 @@
 // One line of unk.def: "Split at commas: category, left, right (u32), cost (i32, sign allowed), details." Each function takes a part of a text;
 // a part that reaches past the text is cut at its end, and one that starts behind its end is empty.
+#![tactic(auto)]
+
 ghost use Rattle.std.specs.Prelude.{◌≡◌, ◌+◌, ◌≤◌, length, take, drop};
 ghost use Rattle.paper.specs.Lists.{until, is};
 ghost use Rattle.paper.specs.Computed.ReadUnk.{unk_line_of};

@@ -1,5 +1,7 @@
 // A window of code points: the slots that have to do with it, gathered once for all rows in it, and the covering rule by them. A walk from boundary
 // to boundary goes by windows.
+#![tactic(auto)]
+
 ghost use Rattle.std.specs.Prelude.{◌≡◌, ◌+◌, ◌*◌, ◌≤◌, ◌<◌, length};
 ghost use Rattle.paper.specs.Sizes.{max_categories, max_ranges, max_u32};
 ghost use Rattle.paper.specs.Tables.Layout.{range_slot_size};

@@ -1,5 +1,7 @@
 // Lookups over any lent tables of unk.def: U, `lookup_word_ids`, `word_entry`, `word_details`. No table is believed: what would lie outside of one is
 // 26.
+#![tactic(auto)]
+
 ghost use Rattle.std.specs.Prelude.{◌≡◌, ◌≤◌};
 ghost use Rattle.word.specs.Words.{word_ids_in, word_entry_in, span_at, word_details_in, found, entry, held};
 ghost use Rattle.paper.specs.Sizes.{max_u32};

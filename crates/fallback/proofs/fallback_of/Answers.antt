@@ -1,0 +1,18 @@
+-- `fallback::fallback_of` meets its contract: each case is what was found; a number below the limit has 16 bits.
+-- Assumes nothing.
+use native.Mathlib.Omega.{arith}
+use Rattle.fallback.proofs.Default.{found_as, found_below}
+use Rattle.by_name.specs.declared.CategoryFound.TheVariants.{Category, Absent, Refused}
+use Rattle.fallback.proofs.fallback_of.Goals as goal
+
+pub overflow_cast-result : goal.overflow_cast-result
+overflow_cast-result c = let n = c.number-1.given in let h = found_below _ _ _ _ _ c.find_category.ensures n.0.0 n.1 in omega arith
+
+pub returns-in-Category : goal.returns-in-Category
+returns-in-Category c = let n = c.number-1.given in found_as _ _ _ _ _ c.find_category.ensures (Category n.0.0) n.1
+
+pub returns-in-Absent : goal.returns-in-Absent
+returns-in-Absent c = found_as _ _ _ _ _ c.find_category.ensures Absent c.in-Absent.is
+
+pub returns-in-Refused : goal.returns-in-Refused
+returns-in-Refused c = let r = c._refusal-1.given in found_as _ _ _ _ _ c.find_category.ensures (Refused r.0.0) r.1

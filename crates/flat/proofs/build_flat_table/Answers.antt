@@ -1,0 +1,51 @@
+-- `flat::build_flat_table` meets its contract: 26 by the test of `hold`; over tables that hold together the walk over two of them makes the reading's
+-- flat table. Assumes nothing.
+use Prim.Native.Nat.{ℕ}
+use native.Mathlib.Omega.{arith}
+use mathlib.Core.List.{List}
+use Rattle.paper.specs.Computed.HandedIn.{holds}
+use Rattle.paper.specs.Tables.Layout.{Tables}
+use Rattle.table_rules.proofs.Tests.{untrue, passed, clash}
+use Rattle.fill_rows.proofs.Fills.{one_fallback}
+use Rattle.row.proofs.Meets.{few_names}
+use Rattle.fill_flat.specs.Walked.{FlatRoom}
+use Rattle.flat.proofs.Promise.{of_bytes, builds_apart, buildable, builds_flat}
+use Rattle.flat.proofs.build_flat_table.Goals as goal
+
+abbrev tables_of : (names categories definitions ranges references : List ℕ) → Tables
+tables_of a b c d e = record { names = a; categories = b; definitions = c; ranges = d; references = e }
+
+pub returns-then-not-reading_holds : goal.returns-then-not-reading_holds
+returns-then-not-reading_holds c =
+    let a = c.args in
+    let t = tables_of a.names.now a.categories.now a.definitions.now a.ranges.now a.references.now in
+    let lent : FlatRoom = record { index = a.flat_index_lem.now; pool = a.flat_pool_lem.now } in
+    builds_apart t a.counts lent (untrue (holds t a.counts) (clash _ (holds t a.counts) c.reading_holds.ensures c.if-not-reading_holds.taken))
+
+pub fallback_of-fallback-requires : goal.fallback_of-fallback-requires
+fallback_of-fallback-requires c =
+    let a = c.args in
+    let t = tables_of a.names.now a.categories.now a.definitions.now a.ranges.now a.references.now in
+    few_names t a.counts (passed _ (holds t a.counts) c.reading_holds.ensures c.if-not-reading_holds.left)
+
+pub build_flat-requires : goal.build_flat-requires
+build_flat-requires c =
+    let a = c.args in
+    let t = tables_of a.names.now a.categories.now a.definitions.now a.ranges.now a.references.now in
+    let b = of_bytes t (λ i. omega (arith, c.shared_slice_known-2-1.given i))
+    (λ i. omega (arith, c.shared_slice_known-3-1.given i))
+    (λ i. omega (arith, c.shared_slice_known-4-1.given i))
+    (λ i. omega (arith, c.shared_slice_known-5-1.given i)) in
+    let d = c.fallback_of-fallback in
+    buildable t a.counts (passed _ (holds t a.counts) c.reading_holds.ensures c.if-not-reading_holds.left) _ d.ensures b
+    (one_fallback d.result)
+
+pub returns : goal.returns
+returns c =
+    let a = c.args in
+    let t = tables_of a.names.now a.categories.now a.definitions.now a.ranges.now a.references.now in
+    let lent : FlatRoom = record { index = a.flat_index_lem.now; pool = a.flat_pool_lem.now } in
+    let h = c.reading_holds.ensures in
+    let u = c.if-not-reading_holds.left in
+    let d = c.fallback_of-fallback.ensures in
+    builds_flat t a.counts (passed _ (holds t a.counts) h u) _ d lent _ _ c.build_flat.ensures

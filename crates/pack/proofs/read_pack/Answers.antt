@@ -1,0 +1,80 @@
+-- `pack::read_pack` meets its contract. Assumes nothing.
+use Prim.Native.Nat.{◌*◌}
+use Rattle.paper.specs.Sizes.{max_name_bytes, max_categories, max_category_lines, max_ranges, max_references}
+use Rattle.paper.specs.Computed.ReadPack.{read_pack}
+use Rattle.paper.specs.Tables.Layout.{Tables, name_slot_size, definition_size, range_slot_size, reference_size}
+use Rattle.paper.specs.Tables.Reader.{has_room}
+use Rattle.room.proofs.Five.{lacking, having, part_long}
+use Rattle.room.proofs.Sizes.{RoomIn, roomy, parts_sized}
+use Rattle.room.proofs.Whole.{short_room, reads}
+use Rattle.pack.proofs.Answer.{refusals_clear}
+use Rattle.pack.proofs.Kept.{part_kept}
+use Rattle.pack.proofs.read_pack.Goals as goal
+
+-- the tables that are lent, and that they are large enough behind the test: stated once, at the place where it is known
+abbrev lent : goal.Start → Tables
+lent c =
+    record
+    { names = c.args.names.now; categories = c.args.categories.now; definitions = c.args.definitions.now; ranges = c.args.ranges.now; references = c.args.references.now }
+
+roomed : (c : goal.Else-not-has_room) → RoomIn (lent c)
+roomed c = roomy (lent c) c.has_room.ensures c.if-not-has_room.left
+
+pub returns-then-not-has_room : goal.returns-then-not-has_room
+returns-then-not-has_room c = short_room (read_pack c.args.pack.now) (lent c) (lacking (has_room (lent c)) c.has_room.ensures c.if-not-has_room.taken)
+
+pub slice_bounds-read_into-end : goal.slice_bounds-read_into-end
+slice_bounds-read_into-end c = (roomed c).first
+
+pub slice_bounds-read_into-end-2 : goal.slice_bounds-read_into-end-2
+slice_bounds-read_into-end-2 c = part_long max_name_bytes c.args.names.now (roomed c).first
+
+pub slice_bounds-read_into-end-3 : goal.slice_bounds-read_into-end-3
+slice_bounds-read_into-end-3 c = (roomed c).second
+
+pub slice_bounds-read_into-end-4 : goal.slice_bounds-read_into-end-4
+slice_bounds-read_into-end-4 c = part_long (name_slot_size * max_categories) c.args.categories.now (roomed c).second
+
+pub slice_bounds-read_into-end-5 : goal.slice_bounds-read_into-end-5
+slice_bounds-read_into-end-5 c = (roomed c).third
+
+pub slice_bounds-read_into-end-6 : goal.slice_bounds-read_into-end-6
+slice_bounds-read_into-end-6 c = part_long (definition_size * max_category_lines) c.args.definitions.now (roomed c).third
+
+pub slice_bounds-read_into-end-7 : goal.slice_bounds-read_into-end-7
+slice_bounds-read_into-end-7 c = (roomed c).fourth
+
+pub slice_bounds-read_into-end-8 : goal.slice_bounds-read_into-end-8
+slice_bounds-read_into-end-8 c = part_long (range_slot_size * max_ranges) c.args.ranges.now (roomed c).fourth
+
+pub slice_bounds-read_into-end-9 : goal.slice_bounds-read_into-end-9
+slice_bounds-read_into-end-9 c = (roomed c).fifth
+
+pub slice_bounds-read_into-end-10 : goal.slice_bounds-read_into-end-10
+slice_bounds-read_into-end-10 c = part_long (reference_size * max_references) c.args.references.now (roomed c).fifth
+
+pub read_into-requires : goal.read_into-requires
+read_into-requires c = parts_sized (lent c) (roomed c)
+
+pub shape_of-names : goal.shape_of-names
+shape_of-names c = part_kept max_name_bytes c.args.names.now c.read_into.new.names c.read_into.auto.names
+
+pub shape_of-categories : goal.shape_of-categories
+shape_of-categories c = part_kept (name_slot_size * max_categories) c.args.categories.now c.read_into.new.categories c.read_into.auto.categories
+
+pub shape_of-definitions : goal.shape_of-definitions
+shape_of-definitions c = part_kept (definition_size * max_category_lines) c.args.definitions.now c.read_into.new.definitions c.read_into.auto.definitions
+
+pub shape_of-ranges : goal.shape_of-ranges
+shape_of-ranges c = part_kept (range_slot_size * max_ranges) c.args.ranges.now c.read_into.new.ranges c.read_into.auto.ranges
+
+pub shape_of-references : goal.shape_of-references
+shape_of-references c = part_kept (reference_size * max_references) c.args.references.now c.read_into.new.references c.read_into.auto.references
+
+pub returns : goal.returns
+returns c =
+    let l = c.read_into.new in
+    reads (read_pack c.args.pack.now) (lent c) (having (has_room (lent c)) c.has_room.ensures c.if-not-has_room.left)
+    (refusals_clear c.args.pack.now)
+    (record { names = l.1.0; categories = l.1.1.0; definitions = l.1.1.1.0; ranges = l.1.1.1.1.0; references = l.1.1.1.1.1.0 })
+    c.read_into.result c.read_into.ensures

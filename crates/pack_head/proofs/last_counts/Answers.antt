@@ -1,0 +1,30 @@
+-- `pack_head::last_counts` meets its contract. Assumes nothing.
+use native.Mathlib.Omega.{arith}
+use Rattle.paper.specs.Pack.Fields.{ranges_width}
+use Rattle.pack_head.proofs.Counting.{within, last_stop, last_stop_2, last_read}
+use Rattle.pack_head.proofs.last_counts.Goals as goal
+
+pub limited-requires-in-Value : goal.limited-requires-in-Value
+limited-requires-in-Value c =
+    let a = c.args in
+    let x = within a.pack.now ranges_width _ a.from.at (rw c.ranges.given.1 at c.limited.ensures) in
+    (omega arith, omega arith)
+
+pub returns-in-Refused : goal.returns-in-Refused
+returns-in-Refused c =
+    let a = c.args in
+    last_stop a.pack.now a.from.at a.categories a.lines (rw c.in-Refused.is at c.limited.ensures)
+
+pub returns-in-Refused-limited : goal.returns-in-Refused-limited
+returns-in-Refused-limited c =
+    let a = c.args in
+    last_stop_2 a.pack.now a.from.at a.categories a.lines
+    (rw c.ranges.given.1 at c.limited.ensures)
+    (rw c.in-Refused-limited.is at c.limited-in-Value.ensures)
+
+pub returns-in-Value-limited : goal.returns-in-Value-limited
+returns-in-Value-limited c =
+    let a = c.args in
+    last_read a.pack.now a.from.at a.categories a.lines
+    (rw c.ranges.given.1 at c.limited.ensures)
+    (rw c.in-Value-limited.is at c.limited-in-Value.ensures) (omega arith) (omega arith)

@@ -1,0 +1,11 @@
+-- `pack_names::read_names` meets its contract. Assumes nothing.
+use Prim.Native.Nat.{◌-◌}
+use Rattle.pack_names.proofs.Naming.{NamesGoing}
+use Rattle.pack_names.proofs.read_names.Given as goal
+
+abbrev pub invariant-loop-i : goal.invariant-loop-i
+invariant-loop-i l =
+    NamesGoing l.pack l.initial.at l.n (record { l.names = l.names; l.categories = l.categories; l.marks = l.marks }) l.at l.used l.i
+
+abbrev pub decreases-loop-i : goal.decreases-loop-i
+decreases-loop-i l = l.n - l.i

@@ -1,0 +1,56 @@
+use native.Mathlib.Omega.{arith}
+use Prim.Native.Nat.{◌-◌}
+use mathlib.Core.Path.{sym}
+use lib.Dec.{ltb}
+use Rattle.paper.specs.Numbers.Bytes.{le}
+use Rattle.paper.specs.Pack.Fields.{number_width}
+use Rattle.paper.specs.Computed.ReadPack.{number}
+use Rattle.paper.specs.Tables.Layout.{reference_size}
+use Rattle.paper.proofs.Tables.Trip.{wide_number}
+use Rattle.pack_field.proofs.Fill.{none_yet, one_more, broken_off, all_read}
+use Rattle.pack_ranges.proofs.Ranging.{known_read}
+use Rattle.pack_ranges.proofs.read_references.Goals as goal
+
+pub loop-i-init : goal.loop-i-init
+loop-i-init c =
+    let a = c.args in
+    none_yet (le reference_size) reference_size wide_number (number number_width (λ x. ltb x a.known)) number_width _ _ _ _ _ (omega arith) (omega arith)
+
+pub known_field-requires : goal.known_field-requires
+known_field-requires c = omega (arith, c.loop-i.invariant.on)
+
+pub shape_of-references-in-Refused : goal.shape_of-references-in-Refused
+shape_of-references-in-Refused c = c.loop-i.invariant.long
+
+pub returns-in-Refused : goal.returns-in-Refused
+returns-in-Refused c =
+    let a = c.args in
+    broken_off (le reference_size) reference_size wide_number (number number_width (λ x. ltb x a.known)) number_width _ _ _ _ _ (omega arith) _ _ _
+    c.loop-i.invariant c.loop-i-test.true _ _
+    (sym (rw c.in-Refused.is at c.known_field.ensures))
+
+pub overflow_cast-v : goal.overflow_cast-v
+overflow_cast-v c =
+    let a = c.args in
+    let v = known_read a.pack.now a.known _ (rw c.in-Value.is at c.known_field.ensures) in
+    omega arith
+
+pub loop-i-preserved : goal.loop-i-preserved
+loop-i-preserved c =
+    let a = c.args in
+    let v = known_read a.pack.now a.known _
+    (rw c.in-Value.is at c.known_field.ensures) in
+    one_more (le reference_size) reference_size wide_number (number number_width (λ x. ltb x a.known)) number_width _ _ _ _ _ (omega arith) _ _ _
+    c.loop-i.invariant
+    c.loop-i-test.true _ _ _ _
+    (sym (rw c.in-Value.is at c.known_field.ensures)) v.on
+    (omega arith) (omega arith) c.put_u16.ensures
+
+pub shape_of-references : goal.shape_of-references
+shape_of-references c = c.loop-i.invariant.long
+
+pub returns : goal.returns
+returns c =
+    let a = c.args in
+    all_read (le reference_size) reference_size wide_number (number number_width (λ x. ltb x a.known)) number_width _ _ _ _ _ (omega arith) _ _ _
+    c.loop-i.invariant c.loop-i-test.false

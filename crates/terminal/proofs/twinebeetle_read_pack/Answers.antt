@@ -1,0 +1,14 @@
+-- `terminal::twinebeetle_read_pack` meets its contract: the reader's promise, with the counts. Assumes nothing.
+use native.Mathlib.Omega.{arith}
+use Rattle.terminal.proofs.Places.{outcome_fits, pack_small}
+use Rattle.terminal.proofs.Whole.{exports, short_counts}
+use Rattle.terminal.proofs.twinebeetle_read_pack.Goals as goal
+
+pub returns-then-counts-lt-COUNTS_SIZE : goal.returns-then-counts-lt-COUNTS_SIZE
+returns-then-counts-lt-COUNTS_SIZE c = short_counts _ _ _ (omega arith)
+
+pub give-requires : goal.give-requires
+give-requires c = record { counts_size_in_bounds = omega arith; exportable = outcome_fits _ (pack_small _) _ _ _ (c.read_pack-outcome.ensures) }
+
+pub returns : goal.returns
+returns c = exports _ _ _ _ _ _ _ (omega arith) (c.read_pack-outcome.ensures) (c.give.ensures)

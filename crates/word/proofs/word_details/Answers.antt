@@ -1,0 +1,14 @@
+-- `word::word_details` meets its contract: the part that was located, which lies in the table. Assumes nothing.
+use native.Mathlib.Omega.{arith}
+use mathlib.Core.Path.{sym, ◌∙◌}
+use Rattle.word.proofs.Words.{details_inside, details_held, details_none}
+use Rattle.word.proofs.word_details.Goals as goal
+
+pub overflow_add-end : goal.overflow_add-end
+overflow_add-end c = let h = details_inside _ _ _ _ _ (sym (c.in-At.is) ∙ c.locate_details.ensures) in omega arith
+
+pub returns-in-At : goal.returns-in-At
+returns-in-At c = details_held _ _ _ _ _ (sym (c.in-At.is) ∙ c.locate_details.ensures)
+
+pub returns-in-Refused : goal.returns-in-Refused
+returns-in-Refused c = details_none _ _ _ _ _ (sym (c.in-Refused.is) ∙ c.locate_details.ensures)
