@@ -31,7 +31,7 @@ use Rattle.char_def.specs.Parse.{Parsed}
 use Rattle.fill_rows.specs.Walked.{RowRoom}
 use Rattle.row.specs.Built.{BuildsRows}
 use Rattle.row.specs.Built as rows
-use Rattle.row.specs.declared.Built as rows_built_lem
+use Rattle.row.specs.declared.Built as rows_built
 use Rattle.row.specs.declared.Built.TheVariants as rows_are
 use Rattle.row.proofs.Promise as row
 use Rattle.fill_flat.specs.Walked.{FlatRoom}
@@ -114,7 +114,7 @@ kept : {Room : Type 0} (numbers : List ℕ) (lent left : Room) (k : ℕ) (x : Re
     → Kept numbers lent left x
 kept numbers lent left k x m e f = rw e (m, refl, f)
 
-pub rows_finished : (t : Tables) (n : Counts) (lent left : RowRoom) (r : rows_built_lem.Built) → BuildsRows t n lent left r
+pub rows_finished : (t : Tables) (n : Counts) (lent left : RowRoom) (r : rows_built.Built) → BuildsRows t n lent left r
     → Built row_numbers rows_are.Refused (BuildsRows t n lent) lent left r
 rows_finished t n lent left r p =
     record {

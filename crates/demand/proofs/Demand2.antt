@@ -30,16 +30,16 @@ looks_up t n q e b = as_built q (lookup_tables b) (go b.flat)
   where
     go : (f : FlatToo t n)
         → AsBuilt q (record { index = index_of f; flat = flat_of f; boundaries = (lookup_tables b).boundaries; starts = (lookup_tables b).starts; lengths = (lookup_tables b).lengths; pool = (lookup_tables b).pool })
-    go no_flat = found.without_flat (rows_left b.rows_built_lem q e [] []) refl
+    go no_flat = found.without_flat (rows_left b.rows_built q e [] []) refl
     go (with_flat lent left places p) =
-        found.with_flat (rows_left b.rows_built_lem q e (index_of (with_flat lent left places p)) left.pool)
+        found.with_flat (rows_left b.rows_built q e (index_of (with_flat lent left places p)) left.pool)
         (flat_left p q e (lookup_tables b).boundaries (lookup_tables b).starts (lookup_tables b).lengths (lookup_tables b).pool)
 
 -- names and definitions by number over such tables
 pub finds_by_number : (t : Tables) (n : Counts) (q : Reading) → handed_in t n ≡ some q → FindsByNumber q t n
 finds_by_number t n q e =
     record {
-      name_held_lem = numbered.held_name t n q e;
+      name_held = numbered.held_name t n q e;
       name_unknown = numbered.name_none t n q e;
       name_known = numbered.name_some t n q e;
       defined = numbered.defined t n q e;

@@ -83,7 +83,7 @@ module _ (r : Reading) (lent : RowRoom) where
   roomy_not : RoomFor (boundaries r) (rows r) lent → shortage ≡ false
   unfolding row_room_short rows_needed
   roomy_not h =
-      let p : places_needed r ≤ length lent.pool = subst (λ k. k ≤ length lent.pool) (sym (places_exact r)) h.in_pool_lem in
+      let p : places_needed r ≤ length lent.pool = subst (λ k. k ≤ length lent.pool) (sym (places_exact r)) h.in_pool in
       rw (le-ltb (length lent.boundaries) (length (boundaries r)) h.in_boundaries, le-ltb (length lent.starts) (length (boundaries r)) h.in_starts)
       (rw (le-ltb (length lent.lengths) (length (boundaries r)) h.in_lengths, le-ltb (length lent.pool) (places_needed r) p))
 
@@ -104,7 +104,7 @@ module _ (r : Reading) (lent : RowRoom) where
             in_boundaries = ltb-false (length lent.boundaries) (length (boundaries r)) ea;
             in_starts = ltb-false (length lent.starts) (length (boundaries r)) eb;
             in_lengths = ltb-false (length lent.lengths) (length (boundaries r)) ec;
-            in_pool_lem = subst (λ k. k ≤ length lent.pool) (places_exact r) (ltb-false (length lent.pool) (places_needed r) ed);
+            in_pool = subst (λ k. k ≤ length lent.pool) (places_exact r) (ltb-false (length lent.pool) (places_needed r) ed);
           }))
 
   filled_so : (after : RowRoom) → RoomFor (boundaries r) (rows r) lent → Filled (boundaries r) (rows r) lent after → after ≡ filled r lent
@@ -114,7 +114,7 @@ module _ (r : Reading) (lent : RowRoom) where
       room_same after _ _ _ _ (f.boundaries ∙ set_ahead (boundaries r) lent.boundaries h.in_boundaries)
       (f.starts ∙ set_ahead (offsets_from 0 (rows r)) lent.starts (omega (arith, offsets_length 0 (rows r), h.in_starts)))
       (f.lengths ∙ set_ahead (map length (rows r)) lent.lengths (omega (arith, length-map (rows r) length, h.in_lengths)))
-      (f.pool ∙ set_ahead (joined (rows r)) lent.pool h.in_pool_lem)
+      (f.pool ∙ set_ahead (joined (rows r)) lent.pool h.in_pool)
 
 -- ---- over tables handed in
 

@@ -17,7 +17,7 @@ use Rattle.paper.specs.Text.Scalar.{is_white, is_sep, dot}
 use Rattle.paper.specs.Numbers.Numeral.{decimal, NoU32}
 use Rattle.paper.specs.CharDef.Line.{Line, LineFits, begins0x}
 use Rattle.paper.specs.CharDef.Reading.{Reading, reading_of, Within, EachFits, done, next, refused}
-use Rattle.paper.specs.CharDef.BadLine.{Body, Fields, last_field, more_fields, RangeFields, CategoryFields, Parts, one_part, two_parts, Misfit, many_parts, lower_bad, upper_bad, not_four, no_number, BadBound, no_hex, mark, swapped, NoRoom, too_many, too_many_bytes, PastLimit, range_over, references_over, range_name, line_over, category_name_lem, BadLine, misfit, past_limit}
+use Rattle.paper.specs.CharDef.BadLine.{Body, Fields, last_field, more_fields, RangeFields, CategoryFields, Parts, one_part, two_parts, Misfit, many_parts, lower_bad, upper_bad, not_four, no_number, BadBound, no_hex, mark, swapped, NoRoom, too_many, too_many_bytes, PastLimit, range_over, references_over, range_name, line_over, category_name, BadLine, misfit, past_limit}
 use Rattle.paper.specs.Computed.Numeral.{numeral}
 use Rattle.paper.specs.Computed.ReadText.{Found, found, wrong, BoundFound, parts, from_bounds, from_parts, range_of, from_numbers, category_of, body, body_line, line_of, Step, go_on, stop, enter, enter_found, verdict, read_lines}
 use Rattle.paper.proofs.Apart.{zero_one, none_some, wrong_found, refused_accepted}
@@ -210,7 +210,7 @@ past_number (range_over h) = omega arith
 past_number (references_over h i) = omega arith
 past_number (range_name h i f) = let k = room_number f.over in omega arith
 past_number (line_over h) = omega arith
-past_number (category_name_lem h f) = let k = room_number f.over in omega arith
+past_number (category_name h f) = let k = room_number f.over in omega arith
 
 pub bad_number : {r : Reading} {cs : List ℕ} {n : ℕ} → BadLine r cs n → (range_parts ≤ n) × (n ≤ name_bytes_full)
 bad_number (misfit m) = let h = misfit_number m in omega arith
@@ -223,7 +223,7 @@ at_limit w (range_over h) = let k = w.ranges_fit in omega arith
 at_limit w (references_over h i) = omega arith
 at_limit w (range_name h i f) = let k = room_number f.over in omega arith
 at_limit w (line_over h) = let k = w.definitions_fit in omega arith
-at_limit w (category_name_lem h f) = let k = room_number f.over in omega arith
+at_limit w (category_name h f) = let k = room_number f.over in omega arith
 
 -- a line is bad, or it says a line with which the limits are kept
 pub bad_or_entered : (ls : List Line) (cs : List ℕ) → Within (reading_of ls)

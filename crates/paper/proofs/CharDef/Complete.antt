@@ -196,7 +196,7 @@ range_complete {cs} {lower} {upper} {names} l =
     ap body_line the_body
     ∙ range_body (l.bounds ++ l.named) (bounds_0x l.named l.bounded)
     ∙ ap range_of
-    (words_word is_white l.bounds l.named solid (names_edge l.names_in_lem) ∙ ap (λ w. l.bounds ∷ w) (names_words l.names_in_lem))
+    (words_word is_white l.bounds l.named solid (names_edge l.names_in) ∙ ap (λ w. l.bounds ∷ w) (names_words l.names_in))
     ∙ unfold range_of in bounds_read names l.bounded
   where
     chars : T (full is_name_char l.bounds)
@@ -212,10 +212,10 @@ range_complete {cs} {lower} {upper} {names} l =
     the_body =
         ap body (l.whole ∙ regroup)
         ∙ body_of l.before (l.bounds ++ l.named) l.after l.rest l.white_before
-        (all_append (un is_hash) l.bounds l.named (all_imp is_name_char (un is_hash) name_no_hash l.bounds (full_all is_name_char l.bounds chars)) (names_no_hash l.names_in_lem))
+        (all_append (un is_hash) l.bounds l.named (all_imp is_name_char (un is_hash) name_no_hash l.bounds (full_all is_name_char l.bounds chars)) (names_no_hash l.names_in))
         l.white_after l.is_comment
         (rw append_assoc (full_opens (un is_white) l.bounds (l.named ++ l.after) solid))
-        (ap (trim_end is_white) (append_assoc l.bounds l.named l.after) ∙ names_trim [] l.bounds l.after solid l.white_after l.names_in_lem)
+        (ap (trim_end is_white) (append_assoc l.bounds l.named l.after) ∙ names_trim [] l.bounds l.after solid l.white_after l.names_in)
 
 flag_field : {cs : List ℕ} {n : ℕ} → Numeral decimal max_u32 cs n → T (full is_field_char cs)
 flag_field r = numeral_chars decimal max_u32 decimal_small is_field_char (unfold is_field_char in tt) (digit_field decimal decimal_small) r

@@ -15,7 +15,7 @@ use Rattle.paper.specs.Lists.{any, same, fresh_after}
 use Rattle.paper.specs.Text.Scalar.{utf8}
 use Rattle.paper.specs.CharDef.Line.{Line, blank, category, range}
 use Rattle.paper.specs.CharDef.Reading.{Definition, Reading, names_of, name_bytes, references}
-use Rattle.paper.specs.CharDef.BadLine.{NoRoom, too_many, too_many_bytes, known_with, FirstOver, PastLimit, range_over, references_over, range_name, line_over, category_name_lem}
+use Rattle.paper.specs.CharDef.BadLine.{NoRoom, too_many, too_many_bytes, known_with, FirstOver, PastLimit, range_over, references_over, range_name, line_over, category_name}
 use Rattle.paper.specs.Computed.ReadText.{stop, Interned, names_are, full_at, intern_one, after_one, intern, add_range, add_definition, enter}
 use Rattle.paper.proofs.Apart.{zero_one, full_names, stop_go}
 use Rattle.paper.proofs.Lists.Facts.{T→true, T→false, true→T, false→T, any_append}
@@ -186,7 +186,7 @@ enter_past r (category name invoke group len) n h = go (leb max_category_lines (
     go false e (full_at m) i h =
         let j : m ≡ n = cc in
         let k : length r.definitions < max_category_lines = leb_no (false→T _ e) in
-        subst (PastLimit r (category name invoke group len)) j (category_name_lem (omega arith) (intern_over (utf8 name ∷ []) r.names m i))
+        subst (PastLimit r (category name invoke group len)) j (category_name (omega arith) (intern_over (utf8 name ∷ []) r.names m i))
     go false e (names_are m) i h = stop_go (sym h)
 enter_past r (range lower upper names) n h =
     go (leb max_ranges (length r.ranges)) refl (ltb max_references (references r.ranges + length names)) refl (intern (map utf8 names) r.names) refl h
@@ -225,6 +225,6 @@ past_enter {r} (range_name {names = names} h i f) =
 past_enter {r} (line_over h) =
     let k : max_category_lines ≤ length r.definitions = omega arith in
     rw (T→true (leb max_category_lines (length r.definitions)) (yes_leb k))
-past_enter {r} (category_name_lem h f) =
+past_enter {r} (category_name h f) =
     let k : length r.definitions < max_category_lines = omega arith in
     rw (T→false (leb max_category_lines (length r.definitions)) (no_leb k), first_over_stops f)

@@ -157,7 +157,7 @@ range_sound cs core l a z (word {f = f} {fs = fs} w r e aw n k q) h =
       whole = a.whole ∙ ap (λ x. a.before ++ (x ++ (a.after ++ a.rest))) (e0 ∙ ap (λ x. f ++ x) e₁) ∙ regroup;
       white_before = a.white_before;
       bounded = bs;
-      names_in_lem = ns;
+      names_in = ns;
       white_after = all_append is_white after a.after wa a.white_after;
       is_comment = a.is_comment;
     } in

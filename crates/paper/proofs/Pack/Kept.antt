@@ -109,7 +109,7 @@ line_names cs (category name i g n) f a =
 line_names cs (range lower upper names) f a =
     let b = all_right is_scalar f.before _ (subst (λ l. T (all is_scalar l)) f.whole a) in
     let c = all_right is_scalar f.bounds _ b in
-    names_good f.names_in_lem (all_left is_scalar f.named _ c)
+    names_good f.names_in (all_left is_scalar f.named _ c)
 
 -- ---- definitions and bounds
 

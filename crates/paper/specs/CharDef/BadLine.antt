@@ -136,7 +136,7 @@ pub data PastLimit (r : Reading) : Line → ℕ → Type 0 where
   -- 11: category line 513
   line_over : {name : List ℕ} {invoke group : Bool} {len : ℕ} → max_category_lines < length r.definitions + 1 → PastLimit r (category name invoke group len) category_lines_full
   -- 12 or 13, of its name
-  category_name_lem : {name : List ℕ} {invoke group : Bool} {len n : ℕ}
+  category_name : {name : List ℕ} {invoke group : Bool} {len n : ℕ}
       → length r.definitions + 1 ≤ max_category_lines
       → FirstOver r.names (names_of (category name invoke group len)) n → PastLimit r (category name invoke group len) n
 

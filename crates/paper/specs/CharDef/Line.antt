@@ -95,7 +95,7 @@ pub record RangeLine (cs : List ℕ) (lower upper : ℕ) (names : List (List ℕ
   pub whole : cs ≡ before ++ (bounds ++ (named ++ (after ++ rest)))
   pub white_before : T (all is_white before)
   pub bounded : Bounds bounds lower upper
-  pub names_in_lem : Names named names
+  pub names_in : Names named names
   pub white_after : T (all is_white after)
   pub is_comment : T (comment rest)
 

@@ -35,13 +35,13 @@ definitions_of blank = []
 definitions_of (category name invoke group length) = record { invoke = invoke; group = group; len = length } ∷ []
 definitions_of (range lower upper names) = []
 
--- the range of a line, its names numbered by their places in `all_names_lem`
+-- the range of a line, its names numbered by their places in `every_name`
 unfoldable pub ranges_of : List (List ℕ) → Line → List Range
 unfolding utf8
-ranges_of all_names_lem blank = []
-ranges_of all_names_lem (category name invoke group length) = []
-ranges_of all_names_lem (range lower upper names) =
-    record { lower = lower; upper = upper; categories = map (λ n. position_of same n all_names_lem) (map utf8 names) } ∷ []
+ranges_of every_name blank = []
+ranges_of every_name (category name invoke group length) = []
+ranges_of every_name (range lower upper names) =
+    record { lower = lower; upper = upper; categories = map (λ n. position_of same n every_name) (map utf8 names) } ∷ []
 
 unfoldable pub all_names : List Line → List (List ℕ)
 unfolding names_of

@@ -33,7 +33,7 @@ pub record Lookups (r : Reading) : Type 0 where
   -- the covering rule: distinct categories of the ranges that hold c, in first-seen order; with none, DEFAULT if it is interned
   pub distinct_row : (c : ℕ) → T (distinct (categories_at r c))
   pub exactly : (c x : ℕ) → any (eqb x) (named r c) ≡ any (λ g. range_holds c g && any (eqb x) g.categories) r.ranges
-  pub first_seen_lem : (c x y : ℕ)
+  pub first_seen : (c x y : ℕ)
       → ltb (position_of eqb x (named r c)) (position_of eqb y (named r c)) ≡ ltb (position_of eqb x (covers r c)) (position_of eqb y (covers r c))
   pub with_some : (c : ℕ) → T (any (λ g. range_holds c g && not (empty g.categories)) r.ranges) → categories_at r c ≡ named r c
   pub with_none : (c : ℕ) → T (not (any (λ g. range_holds c g && not (empty g.categories)) r.ranges)) → categories_at r c ≡ defaults r

@@ -16,4 +16,4 @@ pub returns-then-p-places : goal.returns-then-p-places
 returns-then-p-places c = λ h. omega arith
 
 pub returns : goal.returns
-returns c = record { in_boundaries = omega arith; in_starts = omega arith; in_lengths = omega arith; in_pool_lem = omega arith }
+returns c = record { in_boundaries = omega arith; in_starts = omega arith; in_lengths = omega arith; in_pool = omega arith }
