@@ -39,7 +39,7 @@ looks_up t n q e b = as_built q (lookup_tables b) (go b.flat)
 pub finds_by_number : (t : Tables) (n : Counts) (q : Reading) → handed_in t n ≡ some q → FindsByNumber q t n
 finds_by_number t n q e =
     record {
-      name_held = numbered.held_name t n q e;
+      name_is_held = numbered.held_name t n q e;
       name_unknown = numbered.name_none t n q e;
       name_known = numbered.name_some t n q e;
       defined = numbered.defined t n q e;

@@ -75,7 +75,7 @@ pub record LooksUp (q : Reading) (t : LookupTables) : Type 0 where
 -- names and definitions by number, over a reading's tables and their counts
 pub record FindsByNumber (q : Reading) (t : Tables) (n : Counts) : Type 0 where
   -- `category_name` returns the name with that number; `locate_name` refuses by 15 exactly where there is none
-  pub name_held : (k : ℕ) → name_held t.names (category_name t.names t.categories n.categories k) ≡ get_or q.names k []
+  pub name_is_held : (k : ℕ) → name_held t.names (category_name t.names t.categories n.categories k) ≡ get_or q.names k []
   pub name_unknown : (k : ℕ) → length q.names ≤ k
       → name (category_name t.names t.categories n.categories k) ≡ name_found.Refused (record { number = number_unknown; place = 0 })
   pub name_known : (k : ℕ) → k < length q.names → (e : Refusal)
