@@ -82,7 +82,7 @@ pub fn reading_holds<'a>(
     references: &'a [u8],
     counts: Counts,
 ) -> bool
-    ensures { result ≡ holds (record { names = names.entry.now; categories = categories.now; definitions = definitions.now; ranges = ranges.now; references = references.now }) counts }
+    ensures { result ≡ holds (record { names = names.now; categories = categories.now; definitions = definitions.now; ranges = ranges.now; references = references.now }) counts }
 {
     if !is_enough(
         names.len(),

@@ -5,7 +5,6 @@ use Prim.Native.Nat.{ℕ, suc, ◌+◌, ◌-◌, ◌/◌, ◌≤◌, ◌<◌, ze
 use native.Mathlib.Numerals.{add-one}
 use native.Mathlib.Omega.{arith}
 use mathlib.Core.Path.{◌≡◌, refl, sym, ap, ◌∙◌, subst}
-use mathlib.Core.Logic.{◌⊎◌, ⊎_elim}
 use mathlib.Core.Bool.{Bool, true, false, cond}
 use mathlib.Core.List.{List, [], ◌∷◌, ◌++◌, append-nil}
 use lib.Dec.{leb}
@@ -19,10 +18,8 @@ use Rattle.paper.proofs.Apart.{bad_good}
 use Rattle.paper.proofs.Text.Code.{enc_1, enc_2, enc_3, enc_4, decode_complete, first_taken}
 use Rattle.paper.proofs.Text.Prefix.{first_shapes, prefix_longest, chars_formed}
 use Rattle.text.specs.declared.Scalar.{Scalar}
-use denote.Enum.Declared.{tag_of}
 use Rattle.text.specs.declared.Next.{Next}
 use Rattle.text.specs.declared.Next.TheVariants.{Char, End, Bad}
-use Rattle.text.specs.contracts.Next.{the_type}
 use Rattle.text.specs.Answers.{EncodedAt, Stands, NoneStands, NextIs, head_of, next_by}
 
 -- ---- an encoding's length stands in its first octet
@@ -189,9 +186,9 @@ module _ (s : List ℕ) (at : ℕ) where
       go bad e = refl
       go (good c extra) e = let y = stands c extra (found (drop at s) c extra e) in absurd (x.none c y.scalar y.encoded)
 
-  -- an answer by its tag: the second and the third are no character
-  pub no_char : (r : Next) → (tag_of the_type r ≡ 1) ⊎ (tag_of the_type r ≡ 2) → at < length s → NextIs s at r → head_of (drop at s) ≡ bad
-  no_char (Char q) t h x = absurd (⊎_elim (λ e. omega arith) (λ e. omega arith) t)
+  -- an answer that is no character
+  pub no_char : (r : Next) → ((q : Scalar) → r ≡ Char q → ⊥) → at < length s → NextIs s at r → head_of (drop at s) ≡ bad
+  no_char (Char q) t h x = absurd (t q refl)
   no_char End t h x = absurd (omega arith)
   no_char Bad t h x = bad_head x
 

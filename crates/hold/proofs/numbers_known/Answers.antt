@@ -1,4 +1,3 @@
-use Prim.Native.Nat.{◌-◌}
 use native.Mathlib.Omega.{arith}
 use Rattle.table_rules.proofs.Entries.{all_ends}
 use Rattle.hold.proofs.Known.{is_known, numbers_begin, number_fails, number_goes}

@@ -1,4 +1,3 @@
-use Prim.Native.Nat.{◌-◌}
 use native.Mathlib.Omega.{arith}
 use mathlib.Core.Path.{refl}
 use Rattle.name_rules.proofs.Same.{lengths_differ, byte_differs, byte_agrees, all_agree}

@@ -1,4 +1,3 @@
-use Prim.Native.Nat.{◌-◌}
 use native.Mathlib.Omega.{arith}
 use Rattle.table_rules.proofs.Entries.{all_ends}
 use Rattle.name_rules.proofs.Formed.{formed_at, formed_begin, formed_fails, formed_goes}

@@ -1,4 +1,3 @@
-use Prim.Native.Nat.{◌-◌}
 use native.Mathlib.Omega.{arith}
 use mathlib.Core.Path.{refl}
 use Rattle.name_rules.proofs.Once.{once_begins, once_fails, once_goes, once_ends}
@@ -14,7 +13,7 @@ pub loop-i-init : goal.loop-i-init
 loop-i-init c = (omega arith, once_begins _ _ _)
 
 pub is_new-requires : goal.is_new-requires
-is_new-requires c = record { i_in_bounds = (omega arith, omega (arith, c.mark_names.auto.1.1.1.0)); marked = λ k h. c.mark_names.ensures k (omega arith) }
+is_new-requires c = record { i_in_bounds = (omega arith, omega arith); marked = λ k h. c.mark_names.ensures k (omega arith) }
 
 pub returns-then-not-is_new : goal.returns-then-not-is_new
 returns-then-not-is_new c =

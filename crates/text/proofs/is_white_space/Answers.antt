@@ -2,6 +2,7 @@
 -- Assumes nothing.
 use Prim.Native.Nat.{ℕ}
 use native.Mathlib.Omega.{arith}
+use borrow.Author.Rules.{rules}
 use mathlib.Core.Path.{◌≡◌, sym, ap}
 use mathlib.Core.Logic.{◌⊎◌, inl, inr}
 use mathlib.Core.Bool.{true, false}
@@ -80,16 +81,16 @@ not_white c k l r s t =
     )
 
 pub returns-in_default : goal.returns-in_default
-returns-in_default c = sym (not_white c.args.c c.in_default-1.rest.0.1 c.in_default-1.rest.1 (λ i. omega arith) (λ i. omega arith) (λ i. omega arith))
+returns-in_default c = sym (not_white c.args.c (λ k. omega arith) (λ k. omega arith) (λ i. omega arith) (λ i. omega arith) (λ i. omega arith))
 
 pub returns-in_default-2 : goal.returns-in_default-2
-returns-in_default-2 c = sym (not_white c.args.c c.in_default-1.rest.0.1 c.in_default-1.rest.1 (λ i. omega arith) (λ i. omega arith) (λ i. omega arith))
+returns-in_default-2 c = sym (not_white c.args.c (λ k. omega arith) (λ k. omega arith) (λ i. omega arith) (λ i. omega arith) (λ i. omega arith))
 
 pub returns-in_default-3 : goal.returns-in_default-3
-returns-in_default-3 c = sym (not_white c.args.c c.in_default-1.rest.0.1 c.in_default-1.rest.1 (λ i. omega arith) (λ i. omega arith) (λ i. omega arith))
+returns-in_default-3 c = sym (not_white c.args.c (λ k. omega arith) (λ k. omega arith) (λ i. omega arith) (λ i. omega arith) (λ i. omega arith))
 
 pub returns-in_default-4 : goal.returns-in_default-4
-returns-in_default-4 c = sym (not_white c.args.c c.in_default-1.rest.0.1 c.in_default-1.rest.1 (λ i. omega arith) (λ i. omega arith) (λ i. omega arith))
+returns-in_default-4 c = sym (not_white c.args.c (λ k. omega arith) (λ k. omega arith) (λ i. omega arith) (λ i. omega arith) (λ i. omega arith))
 
 pub returns-in-8232 : goal.returns-in-8232
 returns-in-8232 c = sym (late c.in-8232.is)
@@ -98,7 +99,7 @@ pub returns-in-8232-2 : goal.returns-in-8232-2
 returns-in-8232-2 c = sym (separators (omega arith))
 
 pub returns-in-9-to-13 : goal.returns-in-9-to-13
-returns-in-9-to-13 c = sym (early c.in-9-to-13.keys1)
+returns-in-9-to-13 c = sym (early (search rules))
 
 pub returns-in-9-to-13-2 : goal.returns-in-9-to-13-2
 returns-in-9-to-13-2 c = sym (controls (omega arith))

@@ -5,17 +5,12 @@ use native.Mathlib.Omega.{arith}
 use mathlib.Core.Path.{◌≡◌, sym, ap, ◌∙◌}
 use mathlib.Core.Bool.{Bool, cond}
 use Rattle.paper.specs.Computed.Decode.{bad}
-use Rattle.text.specs.Answers.{Stands}
 use Rattle.text.proofs.Chars.{no_char}
 use Rattle.text.proofs.White.{width_by, width_end, width_octet, width_low, width_high, width_stands}
 use Rattle.text.proofs.white_width.Goals as goal
 
 by_test : (n : ℕ) {t w : Bool} {b : Bool} {m : ℕ} → t ≡ b → t ≡ w → m ≡ cond w n 0 → cond b n 0 ≡ m
 by_test n {b = b} e f g = ap (λ x. cond x n 0) (sym e ∙ f) ∙ sym g
-
--- the character that the call answered
-stood : (c : goal.In-Char) → Stands c.args.s.now c.args.at c.in-Char.c
-stood c = rw c.in-Char.is at c.next_char.ensures
 
 pub returns-then-s-at : goal.returns-then-s-at
 returns-then-s-at c = sym (width_end c.args.s.now c.args.at c.if-s-at.true)
@@ -35,15 +30,15 @@ returns-then-a-gt227 c = sym (width_high c.args.s.now c.args.at c.if-a-gt227.tru
 pub returns-in_default : goal.returns-in_default
 returns-in_default c =
     let a = c.args in
-    sym (width_by _ bad (no_char a.s.now a.at c.next_char.result c.in_default.keys2 c.if-s-at.false c.next_char.ensures))
+    sym (width_by _ bad (no_char a.s.now a.at c.next_char.result c.in_default.not-Char c.if-s-at.false c.next_char.ensures))
 
 pub overflow_sub-result : goal.overflow_sub-result
 overflow_sub-result c =
-    let x = stood c in
+    let x = c.in-Char.ensures in
     omega arith
 
 pub returns-then-is_white_space-2 : goal.returns-then-is_white_space-2
-returns-then-is_white_space-2 c = by_test _ c.if-is_white_space-2.true c.is_white_space-2.ensures (width_stands c.args.s.now c.args.at _ (stood c))
+returns-then-is_white_space-2 c = by_test _ c.if-is_white_space-2.true c.is_white_space-2.ensures (width_stands c.args.s.now c.args.at _ c.in-Char.ensures)
 
 pub returns : goal.returns
-returns c = by_test _ c.if-is_white_space-2.false c.is_white_space-2.ensures (width_stands c.args.s.now c.args.at _ (stood c))
+returns c = by_test _ c.if-is_white_space-2.false c.is_white_space-2.ensures (width_stands c.args.s.now c.args.at _ c.in-Char.ensures)
