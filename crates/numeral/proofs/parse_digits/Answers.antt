@@ -1,5 +1,4 @@
 use native.Mathlib.Omega.{arith}
-use Prim.Native.Nat.{◌-◌}
 use mathlib.Core.Path.{sym, ◌∙◌}
 use Rattle.numeral.proofs.Digits.{began, digit, no_digit, too_great, digits_ended, no_digits, small}
 use Rattle.numeral.proofs.parse_digits.Goals as goal

@@ -1,5 +1,4 @@
 use native.Mathlib.Omega.{arith}
-use Prim.Native.Nat.{◌-◌}
 use mathlib.Core.Path.{refl, sym, ◌∙◌}
 use Rattle.numeral.proofs.Bounds.{strip_end, strip_last, strip_stop, strip_stop₂, strip_on}
 use Rattle.numeral.proofs.past_0x.Goals as goal
