@@ -22,9 +22,9 @@ name_kept-requires c =
     now_naming a.pack.now a.from.at a.len q.len_bound q.i_lt_max_categories.1.0
     (record { names = a.names.now; categories = a.categories.now; marks = a.marks.now })
     (record {
-      names = c.bytes.names.new.p;
-      categories = c.place_name.categories.new.p;
-      marks = c.place_name.marks.new.p;
+      names = c.bytes.new.room;
+      categories = c.place_name.new.categories;
+      marks = c.place_name.new.marks;
     }) a.i a.used _ q.i_lt_max_categories.0 q.i_lt_max_categories.1.1
     (rw c.in-Copied.is at
     c.bytes.ensures)
@@ -38,9 +38,9 @@ returns-then-not-name_kept c =
     λ ns z. name_broken a.pack.now a.from.at a.len q.len_bound q.i_lt_max_categories.1.0
     (record { names = a.names.now; categories = a.categories.now; marks = a.marks.now })
     (record {
-      names = c.bytes.names.new.p;
-      categories = c.place_name.categories.new.p;
-      marks = c.place_name.marks.new.p;
+      names = c.bytes.new.room;
+      categories = c.place_name.new.categories;
+      marks = c.place_name.new.marks;
     }) a.i a.used _ q.i_lt_max_categories.0 q.i_lt_max_categories.1.1
     (rw c.in-Copied.is at
     c.bytes.ensures) c.place_name.ensures.0
@@ -60,9 +60,9 @@ returns-else-not-name_kept c =
     λ ns z. name_in a.pack.now a.from.at a.len q.len_bound q.i_lt_max_categories.1.0
     (record { names = a.names.now; categories = a.categories.now; marks = a.marks.now })
     (record {
-      names = c.bytes.names.new.p;
-      categories = c.place_name.categories.new.p;
-      marks = c.place_name.marks.new.p;
+      names = c.bytes.new.room;
+      categories = c.place_name.new.categories;
+      marks = c.place_name.new.marks;
     }) a.i a.used _ q.i_lt_max_categories.0 q.i_lt_max_categories.1.1
     (rw c.in-Copied.is at
     c.bytes.ensures) c.place_name.ensures.0
