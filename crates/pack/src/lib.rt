@@ -27,7 +27,7 @@ fn fill_tables(
     references: &mut [u8],
 ) -> Outcome
     requires { record { names = names.now; categories = categories.old; definitions = definitions.old; ranges = ranges.old; references = references.old } ≡ in_room no_tables }
-    ensures { Fill (read_pack pack.now) (record { names = names.exit.now; categories = categories.new; definitions = definitions.new; ranges = ranges.new; references = references.new }) result }
+    ensures { Fill (read_pack pack.now) (record { names = names.new; categories = categories.new; definitions = definitions.new; ranges = ranges.new; references = references.new }) result }
 {
     match read_head(pack, BitCursor { at: 0 }) {
         HeadRead::Refused(r) => Outcome::Refused(r),
@@ -73,7 +73,7 @@ fn read_into(
     references: &mut [u8],
 ) -> Outcome
     requires { Sized (record { names = names.now; categories = categories.old; definitions = definitions.old; ranges = ranges.old; references = references.old }) }
-    ensures { ReadInto (read_pack pack.now) (record { names = names.exit.now; categories = categories.new; definitions = definitions.new; ranges = ranges.new; references = references.new }) result }
+    ensures { ReadInto (read_pack pack.now) (record { names = names.new; categories = categories.new; definitions = definitions.new; ranges = ranges.new; references = references.new }) result }
 {
     room::zero_all(names, categories, definitions, ranges, references);
     match fill_tables(pack, names, categories, definitions, ranges, references) {
@@ -95,7 +95,7 @@ pub fn read_pack(
     ranges: &mut [u8],
     references: &mut [u8],
 ) -> Outcome
-    ensures { Reads (read_pack pack.now) (record { names = names.entry.now; categories = categories.old; definitions = definitions.old; ranges = ranges.old; references = references.old }) (record { names = names.exit.now; categories = categories.new; definitions = definitions.new; ranges = ranges.new; references = references.new }) result }
+    ensures { Reads (read_pack pack.now) (record { names = names.old; categories = categories.old; definitions = definitions.old; ranges = ranges.old; references = references.old }) (record { names = names.new; categories = categories.new; definitions = definitions.new; ranges = ranges.new; references = references.new }) result }
 {
     if !room::has_room(
         names.len(),

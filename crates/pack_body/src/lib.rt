@@ -114,8 +114,8 @@ fn read_tail(
     requires head_bound { from.at + tail_width head ≤ max_place }
     requires head_fits { HeadFits head }
     requires definitions_value { definitions.old ≡ padded (definition_size * max_category_lines) [] }
-    requires ranged { Ranged [] (record { ranges = ranges.now; references = references.old }) }
-    ensures { TailIs pack.now from.at head definitions.new (record { ranges = ranges.exit.now; references = references.new }) result }
+    requires ranged { Ranged [] (record { ranges = ranges.old; references = references.old }) }
+    ensures { TailIs pack.now from.at head definitions.new (record { ranges = ranges.new; references = references.new }) result }
 {
     match read_definitions(pack, from, head.lines, definitions) {
         PartRead::Refused(r) => PartRead::Refused(r),
@@ -157,8 +157,8 @@ pub fn read_body(
 ) -> CountRead
     requires head_bound { from.at + body_width head ≤ max_place }
     requires head_fits { HeadFits head }
-    requires references_value { record { names = names.now; categories = categories.old; definitions = definitions.old; ranges = ranges.old; references = references.old } ≡ in_room no_tables }
-    ensures { BodyIs pack.now from.at head (record { names = names.exit.now; categories = categories.new; definitions = definitions.new; ranges = ranges.new; references = references.new }) result }
+    requires references_value { record { names = names.old; categories = categories.old; definitions = definitions.old; ranges = ranges.old; references = references.old } ≡ in_room no_tables }
+    ensures { BodyIs pack.now from.at head (record { names = names.new; categories = categories.new; definitions = definitions.new; ranges = ranges.new; references = references.new }) result }
 {
     match read_names(pack, from, head.categories, names, categories) {
         CountRead::Refused(r) => CountRead::Refused(r),

@@ -19,8 +19,8 @@ use Rattle.pack_head.specs.Head.{last_width, counts_width, read_last, HeadIn, He
 use Rattle.pack_field.proofs.Steps.{go_on, stop, behind, alike, cut, keeps, breaks}
 
 -- a count within its limit
-up_to : (w limit at : ℕ) (s : List ℕ) → number w (count_rule limit 0) at s ≡ number w (up_to limit) at s
-up_to w limit at s = alike pack_rule w at (count_rule limit 0) (up_to limit) s (λ n. (let e : 0 + n ≡ n = omega arith in ap (λ k. leb k limit) e))
+up_to_lem : (w limit at : ℕ) (s : List ℕ) → number w (count_rule limit 0) at s ≡ number w (up_to limit) at s
+up_to_lem w limit at s = alike pack_rule w at (count_rule limit 0) (up_to limit) s (λ n. (let e : 0 + n ≡ n = omega arith in ap (λ k. leb k limit) e))
 
 abbrev Counted : List ℕ → (w limit at v to : ℕ) → Type 0
 Counted p w limit at v to = gave v to (rest p to) ≡ number w (count_rule limit 0) at (rest p at)
@@ -36,7 +36,7 @@ within p w limit at {v} e =
     record { on = b.on; fits = omega arith }
 
 counted : (p : List ℕ) (w limit at : ℕ) {v to : ℕ} → Counted p w limit at v to → number w (up_to limit) at (rest p at) ≡ gave v to (rest p to)
-counted p w limit at e = sym (up_to w limit at (rest p at)) ∙ sym e
+counted p w limit at e = sym (up_to_lem w limit at (rest p at)) ∙ sym e
 
 -- what is behind decides
 pub head_after : (p : List ℕ) (at at₁ width width₁ : ℕ) (g g₁ : FieldStep Reading) → g ≡ g₁ → at₁ + width₁ ≡ at + width
@@ -58,13 +58,13 @@ head_after p at at₁ width width₁ g g₁ e w (Refused r) z = e ∙ z
 module _ (p : List ℕ) (at categories lines : ℕ) where
   pub last_stop : {n q : ℕ} → broke n q ≡ number ranges_width (count_rule max_ranges 0) at (rest p at) → read_last categories lines at (rest p at) ≡ broke n q
   unfolding read_last
-  last_stop e = stop _ _ (sym (up_to ranges_width max_ranges at (rest p at)) ∙ sym e)
+  last_stop e = stop _ _ (sym (up_to_lem ranges_width max_ranges at (rest p at)) ∙ sym e)
 
   module _ {ranges at₁ : ℕ} (a : Counted p ranges_width max_ranges at ranges at₁) where
     pub last_stop_2 : {n q : ℕ} → broke n q ≡ number references_width (count_rule max_references 0) at₁ (rest p at₁)
         → read_last categories lines at (rest p at) ≡ broke n q
     unfolding read_last
-    last_stop_2 e = go_on _ _ (counted p ranges_width max_ranges at a) (stop _ _ (sym (up_to references_width max_references at₁ (rest p at₁)) ∙ sym e))
+    last_stop_2 e = go_on _ _ (counted p ranges_width max_ranges at a) (stop _ _ (sym (up_to_lem references_width max_references at₁ (rest p at₁)) ∙ sym e))
 
     pub last_read : {total next : ℕ} → Counted p references_width max_references at₁ total next → categories ≤ max_categories → lines ≤ max_category_lines
         → HeadIn p at last_width (read_last categories lines at (rest p at)) (record { categories = categories; lines = lines; ranges = ranges; references = total }) next
@@ -86,12 +86,12 @@ module _ (p : List ℕ) (at categories lines : ℕ) where
 module _ (p : List ℕ) (at : ℕ) where
   pub first_stop : {n q : ℕ} → broke n q ≡ number categories_width (count_rule max_categories 0) at (rest p at) → read_counted at (rest p at) ≡ broke n q
   unfolding read_counted
-  first_stop e = stop _ _ (sym (up_to categories_width max_categories at (rest p at)) ∙ sym e)
+  first_stop e = stop _ _ (sym (up_to_lem categories_width max_categories at (rest p at)) ∙ sym e)
 
   module _ {categories at₁ : ℕ} (a : Counted p categories_width max_categories at categories at₁) where
     pub first_stop_2 : {n q : ℕ} → broke n q ≡ number lines_width (count_rule max_category_lines 0) at₁ (rest p at₁) → read_counted at (rest p at) ≡ broke n q
     unfolding read_counted
-    first_stop_2 e = go_on _ _ (counted p categories_width max_categories at a) (stop _ _ (sym (up_to lines_width max_category_lines at₁ (rest p at₁)) ∙ sym e))
+    first_stop_2 e = go_on _ _ (counted p categories_width max_categories at a) (stop _ _ (sym (up_to_lem lines_width max_category_lines at₁ (rest p at₁)) ∙ sym e))
 
     pub first_read : {lines at₂ : ℕ} → Counted p lines_width max_category_lines at₁ lines at₂ → (r : HeadRead)
         → HeadIs p at₂ last_width (read_last categories lines at₂ (rest p at₂)) r → HeadIs p at counts_width (read_counted at (rest p at)) r

@@ -47,7 +47,7 @@ fn name_kept<'a>(
     len: usize,
 ) -> bool
     requires { Naming (record { names = names.now; categories = categories.now; marks = marks.now }) (i + 1) (start + len) }
-    ensures { KeptIs (record { names = names.entry.now; categories = categories.now; marks = marks.now }) i start len result }
+    ensures { KeptIs (record { names = names.now; categories = categories.now; marks = marks.now }) i start len result }
 {
     let end = start + len;
     if !name_rules::is_formed(&names[start..end]) {
@@ -69,8 +69,8 @@ fn take_name<'a>(
 ) -> CountRead
     requires len_bound { from.at + byte_width * len ≤ max_place }
     requires i_lt_max_categories { (i < max_categories) × ((1 ≤ len) × (used + len ≤ max_name_bytes)) }
-    requires naming { Naming (record { names = names.now; categories = categories.old; marks = marks.old }) i used }
-    ensures { TakesName pack.now from.at len (record { names = names.entry.now; categories = categories.old; marks = marks.old }) (record { names = names.exit.now; categories = categories.new; marks = marks.new }) i used result }
+    requires naming { Naming (record { names = names.old; categories = categories.old; marks = marks.old }) i used }
+    ensures { TakesName pack.now from.at len (record { names = names.old; categories = categories.old; marks = marks.old }) (record { names = names.new; categories = categories.new; marks = marks.new }) i used result }
 {
     match from.bytes(pack, len, names, used) {
         Run::Refused(r) => CountRead::Refused(r),
@@ -99,8 +99,8 @@ fn read_name<'a>(
 ) -> CountRead
     requires used_bound { from.at + name_length_width + byte_width * (max_name_bytes - used) ≤ max_place }
     requires i_lt_max_categories { (i < max_categories) × (used ≤ max_name_bytes) }
-    requires naming { Naming (record { names = names.now; categories = categories.old; marks = marks.old }) i used }
-    ensures { ReadsName pack.now from.at (record { names = names.entry.now; categories = categories.old; marks = marks.old }) (record { names = names.exit.now; categories = categories.new; marks = marks.new }) i used result }
+    requires naming { Naming (record { names = names.old; categories = categories.old; marks = marks.old }) i used }
+    ensures { ReadsName pack.now from.at (record { names = names.old; categories = categories.old; marks = marks.old }) (record { names = names.new; categories = categories.new; marks = marks.new }) i used result }
 {
     match from.field(pack, NAME_LENGTH_WIDTH) {
         Field::Refused(r) => CountRead::Refused(r),

@@ -150,7 +150,7 @@ fn read_range(
     requires used_bound { from.at + range_width + number_width * (total - used) ≤ max_place }
     requires known_le_max_categories { (known ≤ max_categories) × ((used ≤ total) × (total ≤ max_references)) }
     requires range_slot_size_in_bounds { (range_slot_size * i + range_slot_size ≤ length ranges.old) × (reference_size * total ≤ length references.old) }
-    ensures { RangeIs pack.now from.at (read_range known total used from.at (rest pack.now from.at)) total i used (record { ranges = ranges.entry.now; references = references.old }) (record { ranges = ranges.exit.now; references = references.new }) result }
+    ensures { RangeIs pack.now from.at (read_range known total used from.at (rest pack.now from.at)) total i used (record { ranges = ranges.old; references = references.old }) (record { ranges = ranges.new; references = references.new }) result }
 {
     match read_bounds(pack, from, known, total, used) {
         BoundsRead::Refused(r) => CountRead::Refused(r),
@@ -178,8 +178,8 @@ pub fn read_ranges(
 ) -> CountRead
     requires total_bound { from.at + range_width * n + number_width * total ≤ max_place }
     requires known_le_max_categories { (known ≤ max_categories) × ((n ≤ max_ranges) × (total ≤ max_references)) }
-    requires ranged { Ranged [] (record { ranges = ranges.now; references = references.old }) }
-    ensures { RangesAre pack.now from.at (read_ranges n known total 0 from.at (rest pack.now from.at)) total n (record { ranges = ranges.exit.now; references = references.new }) result }
+    requires ranged { Ranged [] (record { ranges = ranges.old; references = references.old }) }
+    ensures { RangesAre pack.now from.at (read_ranges n known total 0 from.at (rest pack.now from.at)) total n (record { ranges = ranges.new; references = references.new }) result }
 {
     let mut at = from.at;
     let mut used = 0;

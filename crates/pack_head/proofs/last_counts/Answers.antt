@@ -7,8 +7,8 @@ use Rattle.pack_head.proofs.last_counts.Goals as goal
 pub limited-requires-in-Value : goal.limited-requires-in-Value
 limited-requires-in-Value c =
     let a = c.args in
-    let x = within a.pack.now ranges_width _ a.from.at (rw c.ranges.given.1 at c.limited.ensures) in
-    (omega arith, omega arith)
+    let x = within a.pack.now ranges_width _ a.from.at (rw c.in-Value.is at c.limited.ensures) in
+    record { at_le_max_place = omega arith; used_le_max_references = omega arith }
 
 pub returns-in-Refused : goal.returns-in-Refused
 returns-in-Refused c =
@@ -19,12 +19,12 @@ pub returns-in-Refused-limited : goal.returns-in-Refused-limited
 returns-in-Refused-limited c =
     let a = c.args in
     last_stop_2 a.pack.now a.from.at a.categories a.lines
-    (rw c.ranges.given.1 at c.limited.ensures)
+    (rw c.in-Value.is at c.limited.ensures)
     (rw c.in-Refused-limited.is at c.limited-in-Value.ensures)
 
 pub returns-in-Value-limited : goal.returns-in-Value-limited
 returns-in-Value-limited c =
     let a = c.args in
     last_read a.pack.now a.from.at a.categories a.lines
-    (rw c.ranges.given.1 at c.limited.ensures)
+    (rw c.in-Value.is at c.limited.ensures)
     (rw c.in-Value-limited.is at c.limited-in-Value.ensures) (omega arith) (omega arith)

@@ -8,7 +8,7 @@ pub limited-requires-in-Value : goal.limited-requires-in-Value
 limited-requires-in-Value c =
     let a = c.args in
     let x = within a.pack.now categories_width _ a.from.at (rw c.in-Value.is at c.limited.ensures) in
-    (omega arith, omega arith)
+    record { at_le_max_place = omega arith; used_le_max_references = omega arith }
 
 pub last_counts-requires : goal.last_counts-requires
 last_counts-requires c =

@@ -2,8 +2,14 @@
 use native.Mathlib.Omega.{arith}
 use Prim.Native.Nat.{◌+◌, ◌-◌}
 use mathlib.Core.Path.{◌≡◌}
-use Rattle.pack_names.proofs.Names.{categories_long, marks_are, ill, new_or_not}
+use Rattle.pack_names.proofs.Names.{names_long, categories_long, marks_are, ill, new_or_not}
 use Rattle.pack_names.proofs.name_kept.Goals as goal
+
+pub slice_bounds-is_formed-end : goal.slice_bounds-is_formed-end
+slice_bounds-is_formed-end c =
+    let h = c.requires.held.holds in
+    let l = names_long h in
+    omega (arith, h.short)
 
 pub returns-then-not-is_formed : goal.returns-then-not-is_formed
 returns-then-not-is_formed c =
@@ -18,7 +24,7 @@ is_new-requires c =
     let l = categories_long z.holds in
     let f = z.holds.few in
     let m = z.marks_long in
-    ((omega arith, omega arith), marks_are z)
+    record { i_in_bounds = (omega arith, omega arith); marked = marks_are z }
 
 pub returns : goal.returns
 returns c =

@@ -20,13 +20,8 @@ take_name-requires c =
     let a = c.args in
     let o = length_on a.pack.now a.from.at a.used (omega arith)
     (rw c.in-Value.is at c.field.ensures)
-    (omega arith) (omega arith) in (
-      omega arith,
-      (
-        (omega arith, (omega arith, omega arith)),
-        c.requires.naming,
-      ),
-    )
+    (omega arith) (omega arith) in
+    record { len_bound = omega arith; i_lt_max_categories = (omega arith, (omega arith, omega arith)); naming = c.requires.naming }
 
 pub returns-in-Refused : goal.returns-in-Refused
 returns-in-Refused c =

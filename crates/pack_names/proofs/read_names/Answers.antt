@@ -18,7 +18,7 @@ read_name-requires c =
     let z = c.loop-i.invariant in
     let o = z.on in
     let s = z.held.holds.short in
-    (omega arith, ((omega arith, omega arith), going_naming z))
+    record { used_bound = omega arith; i_lt_max_categories = (omega arith, omega arith); naming = going_naming z }
 
 pub shape_of-names-in-Refused : goal.shape_of-names-in-Refused
 shape_of-names-in-Refused c =

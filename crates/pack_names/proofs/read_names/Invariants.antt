@@ -5,7 +5,7 @@ use Rattle.pack_names.proofs.read_names.Given as goal
 
 abbrev pub invariant-loop-i : goal.invariant-loop-i
 invariant-loop-i l =
-    NamesGoing l.pack l.initial.at l.n (record { l.names = l.names; l.categories = l.categories; l.marks = l.marks }) l.at l.used l.i
+    NamesGoing l.pack l.initial.at l.n (record { names = l.names; categories = l.categories; marks = l.marks }) l.at l.used l.i
 
 abbrev pub decreases-loop-i : goal.decreases-loop-i
 decreases-loop-i l = l.n - l.i

@@ -13,35 +13,35 @@ place_name-requires c =
     let m = categories_long z.holds in
     let n = z.marks_long in
     let k = c.bytes.auto in
-    ((omega arith, omega arith), (omega arith, omega arith))
+    record { name_slot_size_in_bounds = (omega arith, omega arith); len_in_bounds = (omega arith, omega arith) }
 
 pub name_kept-requires : goal.name_kept-requires
 name_kept-requires c =
     let a = c.args in
     let q = c.requires in
-    now_naming a.pack.now a.from.at a.len q.0 q.1.0.1.0
+    now_naming a.pack.now a.from.at a.len q.len_bound q.i_lt_max_categories.1.0
     (record { names = a.names.now; categories = a.categories.now; marks = a.marks.now })
     (record {
-      names = c.bytes.new.1.1.1.0;
-      categories = c.place_name.new.1.0;
-      marks = c.place_name.new.1.1.0;
-    }) a.i a.used _ q.1.0.0 q.1.0.1.1
+      names = c.bytes.new.room;
+      categories = c.place_name.new.categories;
+      marks = c.place_name.new.marks;
+    }) a.i a.used _ q.i_lt_max_categories.0 q.i_lt_max_categories.1.1
     (rw c.in-Copied.is at
     c.bytes.ensures)
     c.place_name.ensures.0
-    c.place_name.ensures.1 q.1.1
+    c.place_name.ensures.1 q.naming
 
 pub returns-then-not-name_kept : goal.returns-then-not-name_kept
 returns-then-not-name_kept c =
     let a = c.args in
     let q = c.requires in
-    λ ns z. name_broken a.pack.now a.from.at a.len q.0 q.1.0.1.0
+    λ ns z. name_broken a.pack.now a.from.at a.len q.len_bound q.i_lt_max_categories.1.0
     (record { names = a.names.now; categories = a.categories.now; marks = a.marks.now })
     (record {
-      names = c.bytes.new.1.1.1.0;
-      categories = c.place_name.new.1.0;
-      marks = c.place_name.new.1.1.0;
-    }) a.i a.used _ q.1.0.0 q.1.0.1.1
+      names = c.bytes.new.room;
+      categories = c.place_name.new.categories;
+      marks = c.place_name.new.marks;
+    }) a.i a.used _ q.i_lt_max_categories.0 q.i_lt_max_categories.1.1
     (rw c.in-Copied.is at
     c.bytes.ensures) c.place_name.ensures.0
     c.place_name.ensures.1
@@ -57,13 +57,13 @@ pub returns-else-not-name_kept : goal.returns-else-not-name_kept
 returns-else-not-name_kept c =
     let a = c.args in
     let q = c.requires in
-    λ ns z. name_in a.pack.now a.from.at a.len q.0 q.1.0.1.0
+    λ ns z. name_in a.pack.now a.from.at a.len q.len_bound q.i_lt_max_categories.1.0
     (record { names = a.names.now; categories = a.categories.now; marks = a.marks.now })
     (record {
-      names = c.bytes.new.1.1.1.0;
-      categories = c.place_name.new.1.0;
-      marks = c.place_name.new.1.1.0;
-    }) a.i a.used _ q.1.0.0 q.1.0.1.1
+      names = c.bytes.new.room;
+      categories = c.place_name.new.categories;
+      marks = c.place_name.new.marks;
+    }) a.i a.used _ q.i_lt_max_categories.0 q.i_lt_max_categories.1.1
     (rw c.in-Copied.is at
     c.bytes.ensures) c.place_name.ensures.0
     c.place_name.ensures.1

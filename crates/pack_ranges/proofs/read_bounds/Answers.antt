@@ -15,7 +15,7 @@ limited-requires c =
     let x = bounded a.pack.now a.from.at
     (rw c.in-Value.is at c.bound_field.ensures) in
     let y = bounded a.pack.now _ (rw c.in-Value-bound_field.is at c.bound_field-in-Value.ensures) in
-    ((omega arith, (omega arith, omega arith)), omega arith)
+    record { at_le_max_place = (omega arith, (omega arith, omega arith)); used_le_max_references = omega arith }
 
 pub overflow_cast-result : goal.overflow_cast-result
 overflow_cast-result c =

@@ -9,7 +9,7 @@ read_references-requires c =
     let b = (rw c.in-Read.is at c.read_bounds.ensures) in
     let f = b.fits in
     let o = b.on in
-    (omega arith, (omega arith, (omega arith, omega arith)))
+    record { n_bound = omega arith; n_in_bounds = omega arith; known_le_max_categories = (omega arith, omega arith) }
 
 pub overflow_cast-b : goal.overflow_cast-b
 overflow_cast-b c =

@@ -1,5 +1,4 @@
 use native.Mathlib.Omega.{arith}
-use Prim.Native.Nat.{◌-◌}
 use Rattle.pack_ranges.proofs.Ranging.{zero_ranges, zero_references, no_range_yet, range_off, range_more, all_ranges}
 use Rattle.pack_ranges.proofs.read_ranges.Goals as goal
 
@@ -15,7 +14,7 @@ read_range-requires c =
     let f = z.few in
     let l = z.ranges_long in
     let m = z.references_long in
-    (omega arith, ((omega arith, (omega arith, omega arith)), (omega arith, omega arith)))
+    record { used_bound = omega arith; known_le_max_categories = (omega arith, (omega arith, omega arith)); range_slot_size_in_bounds = (omega arith, omega arith) }
 
 pub shape_of-ranges-in-Refused : goal.shape_of-ranges-in-Refused
 shape_of-ranges-in-Refused c =

@@ -1,5 +1,4 @@
 use native.Mathlib.Omega.{arith}
-use Prim.Native.Nat.{◌-◌}
 use mathlib.Core.Path.{sym}
 use lib.Dec.{ltb}
 use Rattle.paper.specs.Numbers.Bytes.{le}
