@@ -14,7 +14,11 @@ pub append_entry-requires : goal.append_entry-requires
 append_entry-requires c = let a = c.args in
     let s = says_as a.text.now a.start a.end _ (Entry (c.in-Entry.e)) (c.in-Entry.is) (c.parse_dictionary_entry.ensures) in
     let g = c.if-counts-ge-MAX_UNK_ENTRIES.false in
-    (placed (c.requires.inside) s, (c.requires.asked.categories, room_left (c.requires.inside) s (c.requires.working.held) (c.requires.asked) (omega arith)))
+    record {
+      placed = placed (c.requires.inside) s;
+      count_le_max_categories = c.requires.asked.categories;
+      room_left = room_left (c.requires.inside) s (c.requires.working.held) (c.requires.asked) (omega arith);
+    }
 
 pub returns-in-NoEntry : goal.returns-in-NoEntry
 returns-in-NoEntry c = let a = c.args in
