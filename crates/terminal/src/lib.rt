@@ -1,5 +1,7 @@
 // What C calls: "exported as extern \"C\" on numbers and byte slices". Each entry is the plain function's through one u64, 0 or number + 256 * place,
 // and a lent slice for the counts. Nothing checks what C hands over, so nothing is asked of it.
+#![tactic(auto)]
+
 ghost use Rattle.paper.specs.Computed.ReadPack.{read_pack};
 ghost use Rattle.paper.specs.Computed.ReadText.{read_text};
 ghost use Rattle.paper.specs.Text.Scalar.{LongestPrefix};
@@ -9,16 +11,14 @@ use exported::COUNTS_SIZE;
 use paper::ROOM_SHORT;
 
 // The length of the longest well-formed prefix.
-#[unsafe(no_mangle)]
-pub extern "C" fn twinebeetle_valid_prefix(text: &[u8]) -> u64
+pub fn twinebeetle_valid_prefix(text: &[u8]) -> u64
     ensures { LongestPrefix result text.now }
 {
     text::valid_prefix(text) as u64
 }
 
 // char.def read into lent tables.
-#[unsafe(no_mangle)]
-pub extern "C" fn twinebeetle_read_char_def(
+pub fn twinebeetle_read_char_def(
     text: &[u8],
     names: &mut [u8],
     categories: &mut [u8],
@@ -27,7 +27,7 @@ pub extern "C" fn twinebeetle_read_char_def(
     references: &mut [u8],
     counts: &mut [u8],
 ) -> u64
-    ensures { Exports (read_text text.now) (record { names = names.entry.now; categories = categories.old; definitions = definitions.old; ranges = ranges.old; references = references.old }) (record { names = names.exit.now; categories = categories.new; definitions = definitions.new; ranges = ranges.new; references = references.new }) counts.old counts.new result }
+    ensures { Exports (read_text text.now) (record { names = names.old; categories = categories.old; definitions = definitions.old; ranges = ranges.old; references = references.old }) (record { names = names.new; categories = categories.new; definitions = definitions.new; ranges = ranges.new; references = references.new }) counts.old counts.new result }
 {
     if counts.len() < COUNTS_SIZE {
         return ROOM_SHORT as u64;
@@ -37,8 +37,7 @@ pub extern "C" fn twinebeetle_read_char_def(
 }
 
 // A pack read into lent tables: "the terminal's C loader calls the pack reader".
-#[unsafe(no_mangle)]
-pub extern "C" fn twinebeetle_read_pack(
+pub fn twinebeetle_read_pack(
     pack: &[u8],
     names: &mut [u8],
     categories: &mut [u8],
@@ -47,7 +46,7 @@ pub extern "C" fn twinebeetle_read_pack(
     references: &mut [u8],
     counts: &mut [u8],
 ) -> u64
-    ensures { Exports (read_pack pack.now) (record { names = names.entry.now; categories = categories.old; definitions = definitions.old; ranges = ranges.old; references = references.old }) (record { names = names.exit.now; categories = categories.new; definitions = definitions.new; ranges = ranges.new; references = references.new }) counts.old counts.new result }
+    ensures { Exports (read_pack pack.now) (record { names = names.old; categories = categories.old; definitions = definitions.old; ranges = ranges.old; references = references.old }) (record { names = names.new; categories = categories.new; definitions = definitions.new; ranges = ranges.new; references = references.new }) counts.old counts.new result }
 {
     if counts.len() < COUNTS_SIZE {
         return ROOM_SHORT as u64;
