@@ -1,7 +1,5 @@
 """What the two sorts of dictionaries that `compare` makes texts of have in common."""
 
-import os
-import shutil
 import sys
 from pathlib import Path
 from typing import NamedTuple
@@ -60,13 +58,9 @@ def said(answer):
     return f"refused {number} at {place}" if number else f"accepted, {answer[HEAD:].hex()}"
 
 
-def program(name, folder=FOLDER.parent / "target/bin"):
-    """The command that runs our program, as in ./twinebeetle: with the kit's loader, and its emulator where it has one."""
-    kit = Path(shutil.which("rt")).resolve().parent.parent
-    tools = kit / "on" / os.uname().machine / "toolchain"
-    emulator = tools / "bin/qemu-x86_64"
-    loader = [tools / "lib/ld-linux-x86-64.so.2", "--library-path", tools / "lib"]
-    return [*([emulator] if emulator.exists() else []), *loader, Path(folder) / name]
+def program(name, folder=None):
+    """The command that runs our program: where `rt run` and `rt ci` leave it, or in a folder of programs."""
+    return [Path(folder) / name if folder else FOLDER.parent / "crates" / name / "out" / name]
 
 
 def stand_in(name, *wrong):

@@ -6,22 +6,19 @@ cd "$(dirname "$0")/.." || exit 2
 made=$(mktemp -d) || exit 2
 trap 'rm -rf "$made"' EXIT
 
-# The compiler and what runs its programs: the archive is for x86-64, so on Arm a cross compiler and the kit's emulator.
+# The compiler and what runs its programs: the archive is for x86-64, so elsewhere a cross compiler and an emulator.
 compiler=cc
 run=
 if [ "$(uname -m)" != x86_64 ]; then
     compiler=x86_64-linux-gnu-gcc
-    command -v "$compiler" >/dev/null || { apt-get update -qq && apt-get install -y -qq gcc-x86-64-linux-gnu libc6-dev-amd64-cross >/dev/null; } || exit 2
-    kit=$(cd "$(dirname "$(readlink -f "$(command -v rt)")")/.." && pwd)
-    run="$kit/on/$(uname -m)/toolchain/bin/qemu-x86_64 -L /usr/x86_64-linux-gnu"
+    command -v "$compiler" qemu-x86_64 >/dev/null ||
+        { apt-get update -qq && apt-get install -y -qq gcc-x86-64-linux-gnu libc6-dev-amd64-cross qemu-user >/dev/null; } || exit 2
+    run='qemu-x86_64 -L /usr/x86_64-linux-gnu'
 fi
 flags='-O2 -std=c11 -D_POSIX_C_SOURCE=200809L -Wall -Wextra -Werror -Iinclude'
 
-archives=
-for crate in terminal terminal_unk; do
-    rt staticlib "$crate" >"$made/log" 2>&1 || { tail -n 20 "$made/log"; exit 1; }
-    archives="$archives target/staticlib/lib$crate.a"
-done
+tools/archive terminal terminal_unk || exit 1
+archives='target/staticlib/libterminal.a target/staticlib/libterminal_unk.a'
 # shellcheck disable=SC2086
 $compiler $flags -o "$made/packs" tests/c/packs.c tests/c/second_reading.c $archives || exit 1
 # shellcheck disable=SC2086

@@ -1,9 +1,11 @@
 // What our sides of oracle/compare share: texts are read from standard input, each behind its length in four bytes, and answers are written with the
 // least byte first. Rooms are filled before a reader is called, and lent with bytes behind their sizes.
-ghost use Rattle.std.specs.Prelude.{◌≤◌};
-ghost use Rattle.io.specs.Counts.{IsPrefixLen as CountsIn};
+#![tactic(auto)]
 
-use libc::{STDIN_FILENO, STDOUT_FILENO};
+ghost use Rattle.std.specs.Prelude.{◌≡◌, ◌≤◌, length, take};
+
+use std::io;
+use std::io::{ErrorKind, Read, Write};
 
 pub const TEXT_ROOM: usize = 70000;
 
@@ -25,36 +27,36 @@ pub enum Record {
 
 // ---- writing
 
-pub fn put(b: u64) {
-    io::write_all(STDOUT_FILENO, &[(b % 256) as u8]);
+pub fn put<W: Write>(out: &mut W, b: u64) -> io::Result<()> {
+    out.write_all(&[(b % 256) as u8])
 }
 
-pub fn put_number(n: u64, width: usize) {
+pub fn put_number<W: Write>(out: &mut W, n: u64, width: usize) -> io::Result<()> {
     let mut rest = n;
-    let mut left = width;
-    while 0 < left {
-        put(rest);
+    for _ in 0..width {
+        put(out, rest)?;
         rest /= 256;
-        left -= 1;
     }
+    Ok(())
 }
 
-pub fn put_u16(n: usize) {
-    put_number(n as u64, 2);
+pub fn put_u16<W: Write>(out: &mut W, n: usize) -> io::Result<()> {
+    put_number(out, n as u64, 2)
 }
 
-pub fn put_u32(n: usize) {
-    put_number(n as u64, 4);
+pub fn put_u32<W: Write>(out: &mut W, n: usize) -> io::Result<()> {
+    put_number(out, n as u64, 4)
 }
 
 // A refusal's number and place, or 0 twice.
-pub fn put_head(number: u64, place: u64) {
-    put(number);
-    put_number(place, 8);
+pub fn put_head<W: Write>(out: &mut W, number: u64, place: u64) -> io::Result<()> {
+    put(out, number)?;
+    put_number(out, place, 8)
 }
 
 pub fn least(room: &[u8], n: usize) -> usize
-    ensures { CountsIn result room.now }
+    ensures within { result ≤ length room.now }
+    ensures taken { result ≡ length (take result room.now) }
 {
     if room.len() < n {
         return room.len();
@@ -62,9 +64,9 @@ pub fn least(room: &[u8], n: usize) -> usize
     n
 }
 
-pub fn put_part(room: &[u8], used: usize) {
+pub fn put_part<W: Write>(out: &mut W, room: &[u8], used: usize) -> io::Result<()> {
     let n = least(room, used);
-    io::write_all(STDOUT_FILENO, &room[..n]);
+    out.write_all(&room[..n])
 }
 
 // ---- memory
@@ -76,14 +78,12 @@ pub fn few(n: usize) -> usize
 }
 
 fn is_filled(room: &[u8], from: usize, to: usize, b: u8) -> bool {
-    let mut at = from;
-    while at < to {
+    for at in from..to {
         if at < room.len() {
             if room[at] != b {
                 return false;
             }
         }
-        at += 1;
     }
     true
 }
@@ -108,11 +108,24 @@ pub fn wide(b: u8) -> usize
     b as usize
 }
 
+// Whether the room was filled; not where input ends before.
+fn is_read<R: Read>(from: &mut R, room: &mut [u8]) -> io::Result<bool> {
+    match from.read_exact(room) {
+        Ok(()) => Ok(true),
+        Err(e) => {
+            if e.kind() == ErrorKind::UnexpectedEof {
+                return Ok(false);
+            }
+            Err(e)
+        }
+    }
+}
+
 // The next record's text, read into the room; the end where there is none, and where a record is cut or too long.
-pub fn next_record(room: &mut [u8]) -> Record {
+pub fn next_record<R: Read>(from: &mut R, room: &mut [u8]) -> io::Result<Record> {
     let mut head = [0u8; 4];
-    if io::read_full(STDIN_FILENO, &mut head) != 4 {
-        return Record::End;
+    if !is_read(from, &mut head)? {
+        return Ok(Record::End);
     }
     let size = wide(head[0])
         + wide(head[1]) * 256
@@ -120,10 +133,10 @@ pub fn next_record(room: &mut [u8]) -> Record {
         + wide(head[3]) * 16777216;
     let n = least(room, size);
     if n != size {
-        return Record::End;
+        return Ok(Record::End);
     }
-    if io::read_full(STDIN_FILENO, &mut room[..n]) != n {
-        return Record::End;
+    if !is_read(from, &mut room[..n])? {
+        return Ok(Record::End);
     }
-    Record::Text(n)
+    Ok(Record::Text(n))
 }

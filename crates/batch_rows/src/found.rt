@@ -2,6 +2,8 @@
 use crate::writer::{add_u8, add_u16, add_u16s, add_u32};
 use lookup::Located;
 use packed::PackedFound;
+use std::io;
+use std::io::Write;
 
 const CODE_BYTES: usize = 4;
 
@@ -21,25 +23,31 @@ fn byte(number: u32) -> u8 {
     (number % 256) as u8
 }
 
-fn add_where(out: &mut [u8], at: usize, found: Located) -> usize {
+fn add_where<W: Write>(
+    stream: &mut W,
+    out: &mut [u8],
+    at: usize,
+    found: Located,
+) -> io::Result<usize> {
     match found {
         Located::InFlat(_) => {
-            let to = add_u8(out, at, IN_FLAT);
-            add_u8(out, to, 0)
+            let to = add_u8(stream, out, at, IN_FLAT)?;
+            add_u8(stream, out, to, 0)
         }
         Located::InRows(_) => {
-            let to = add_u8(out, at, IN_ROWS);
-            add_u8(out, to, 0)
+            let to = add_u8(stream, out, at, IN_ROWS)?;
+            add_u8(stream, out, to, 0)
         }
         Located::Refused(r) => {
-            let to = add_u8(out, at, REFUSED);
-            add_u8(out, to, byte(r.number))
+            let to = add_u8(stream, out, at, REFUSED)?;
+            add_u8(stream, out, to, byte(r.number))
         }
     }
 }
 
 // Where it is or the refusal, then how many categories, and which.
-fn add_found<'a>(
+fn add_found<'a, W: Write>(
+    stream: &mut W,
     out: &mut [u8],
     at: usize,
     index: &[u32],
@@ -49,30 +57,37 @@ fn add_found<'a>(
     lengths: &[u16],
     pool: &'a [u16],
     c: u32,
-) -> usize {
+) -> io::Result<usize> {
     let found = lookup::locate_categories(index, flat_pool, boundaries, starts, lengths, pool, c);
-    let to = add_where(out, at, found);
+    let to = add_where(stream, out, at, found)?;
     let part = lookup::lookup_categories(index, flat_pool, boundaries, starts, lengths, pool, c);
-    let behind = add_u16(out, to, (part.len() % U16_SIZE) as u16);
-    add_u16s(out, behind, part)
+    let behind = add_u16(stream, out, to, (part.len() % U16_SIZE) as u16)?;
+    add_u16s(stream, out, behind, part)
 }
 
-fn add_packed(out: &mut [u8], at: usize, index: &[u32], c: u32) -> usize {
+fn add_packed<W: Write>(
+    stream: &mut W,
+    out: &mut [u8],
+    at: usize,
+    index: &[u32],
+    c: u32,
+) -> io::Result<usize> {
     match packed::lookup_categories_packed(index, c) {
         PackedFound::At(p) => {
-            let to = add_u8(out, at, PRESENT);
-            let behind = add_u32(out, to, p.offset);
-            add_u16(out, behind, p.len)
+            let to = add_u8(stream, out, at, PRESENT)?;
+            let behind = add_u32(stream, out, to, p.offset)?;
+            add_u16(stream, out, behind, p.len)
         }
-        PackedFound::Absent => add_u8(out, at, ABSENT),
+        PackedFound::Absent => add_u8(stream, out, at, ABSENT),
         PackedFound::Refused(r) => {
-            let to = add_u8(out, at, REFUSED);
-            add_u8(out, to, byte(r.number))
+            let to = add_u8(stream, out, at, REFUSED)?;
+            add_u8(stream, out, to, byte(r.number))
         }
     }
 }
 
-fn add_one<'a>(
+fn add_one<'a, W: Write>(
+    stream: &mut W,
     out: &mut [u8],
     at: usize,
     index: &[u32],
@@ -82,12 +97,13 @@ fn add_one<'a>(
     lengths: &[u16],
     pool: &'a [u16],
     c: u32,
-) -> usize {
+) -> io::Result<usize> {
     let to = add_found(
-        out, at, index, flat_pool, boundaries, starts, lengths, pool, c,
-    );
-    let behind = add_packed(out, to, index, c);
+        stream, out, at, index, flat_pool, boundaries, starts, lengths, pool, c,
+    )?;
+    let behind = add_packed(stream, out, to, index, c)?;
     add_found(
+        stream,
         out,
         behind,
         &index[..0],
@@ -100,7 +116,8 @@ fn add_one<'a>(
     )
 }
 
-pub fn add_all<'a>(
+pub fn add_all<'a, W: Write>(
+    stream: &mut W,
     codes: &[u8],
     out: &mut [u8],
     at: usize,
@@ -110,15 +127,15 @@ pub fn add_all<'a>(
     starts: &[u32],
     lengths: &[u16],
     pool: &'a [u16],
-) -> usize {
+) -> io::Result<usize> {
     let mut to = at;
     let mut next = 0;
     while next < codes.len() {
         let c = table::get_u32(codes, next);
         to = add_one(
-            out, to, index, flat_pool, boundaries, starts, lengths, pool, c,
-        );
+            stream, out, to, index, flat_pool, boundaries, starts, lengths, pool, c,
+        )?;
         next += CODE_BYTES;
     }
-    to
+    Ok(to)
 }

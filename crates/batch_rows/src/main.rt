@@ -1,6 +1,8 @@
 // Our side of oracle/compare for rows, the flat table and lookups: reads pairs of a char.def and of code points from standard input, each behind its
 // length in four bytes, and writes the answer to each pair in the form of oracle/README.md: number and place of the reading; where it is
 // accepted the rows, the flat table, and what is found at each code point.
+#![tactic(auto)]
+
 mod found;
 mod rooms;
 mod tables;
@@ -9,6 +11,8 @@ mod writer;
 use batch::{Record, TEXT_ROOM};
 use paper::{Counts, Outcome};
 use rooms::{FILL_U16, FILL_U32, least_u16, least_u32};
+use std::io;
+use std::io::{BufReader, BufWriter, Read, Write};
 use tables::Tables;
 
 const NAMES: usize = 16384;
@@ -39,7 +43,8 @@ const PLACES: usize = 131072;
 // ---- an answer
 
 // The lookups go over tables as long as they are used.
-fn put_found<'a>(
+fn put_found<'a, W: Write>(
+    stream: &mut W,
     codes: &[u8],
     out: &mut [u8],
     at: usize,
@@ -50,7 +55,7 @@ fn put_found<'a>(
     pool: &'a [u16],
     index: &[u32],
     flat_pool: &'a [u16],
-) {
+) -> io::Result<()> {
     let rows = least_u32(boundaries, t.rows);
     let firsts = least_u32(starts, t.rows);
     let sizes = least_u16(lengths, t.rows);
@@ -58,6 +63,7 @@ fn put_found<'a>(
     let entries = least_u32(index, t.entries);
     let flat_places = least_u16(flat_pool, t.flat_places);
     let to = found::add_all(
+        stream,
         codes,
         out,
         at,
@@ -67,11 +73,12 @@ fn put_found<'a>(
         &starts[..firsts],
         &lengths[..sizes],
         &pool[..places],
-    );
-    batch::put_part(out, to);
+    )?;
+    batch::put_part(stream, out, to)
 }
 
-fn put_answer<'a>(
+fn put_answer<'a, W: Write>(
+    stream: &mut W,
     codes: &[u8],
     out: &mut [u8],
     t: Tables,
@@ -81,13 +88,13 @@ fn put_answer<'a>(
     pool: &'a [u16],
     index: &[u32],
     flat_pool: &'a [u16],
-) {
-    batch::put_head(0, 0);
-    let rows_end = tables::add_rows(out, 0, t, boundaries, starts, lengths, pool);
-    let at = tables::add_flat(out, rows_end, t, index, flat_pool);
+) -> io::Result<()> {
+    batch::put_head(stream, 0, 0)?;
+    let rows_end = tables::add_rows(stream, out, 0, t, boundaries, starts, lengths, pool)?;
+    let at = tables::add_flat(stream, out, rows_end, t, index, flat_pool)?;
     put_found(
-        codes, out, at, t, boundaries, starts, lengths, pool, index, flat_pool,
-    );
+        stream, codes, out, at, t, boundaries, starts, lengths, pool, index, flat_pool,
+    )
 }
 
 fn build<'a>(
@@ -129,7 +136,8 @@ fn build<'a>(
     tables::built(rows, flat)
 }
 
-fn answer<'a>(
+fn answer<'a, W: Write>(
+    stream: &mut W,
     codes: &[u8],
     counts: Counts,
     names: &'a [u8],
@@ -137,7 +145,7 @@ fn answer<'a>(
     definitions: &'a [u8],
     ranges: &'a [u8],
     references: &'a [u8],
-) {
+) -> io::Result<()> {
     let mut boundaries = [FILL_U32; ROWS];
     let mut starts = [FILL_U32; ROWS];
     let mut lengths = [FILL_U16; ROWS];
@@ -160,6 +168,7 @@ fn answer<'a>(
         &mut flat_pool,
     );
     put_answer(
+        stream,
         codes,
         &mut out,
         t,
@@ -169,10 +178,10 @@ fn answer<'a>(
         &pool,
         &index,
         &flat_pool,
-    );
+    )
 }
 
-fn answer_one(text: &[u8], codes: &[u8]) {
+fn answer_one<W: Write>(stream: &mut W, text: &[u8], codes: &[u8]) -> io::Result<()> {
     let mut names = [0u8; NAMES];
     let mut categories = [0u8; CATEGORIES];
     let mut definitions = [0u8; DEFINITIONS];
@@ -186,11 +195,10 @@ fn answer_one(text: &[u8], codes: &[u8]) {
         &mut ranges,
         &mut references,
     ) {
-        Outcome::Refused(r) => {
-            batch::put_head(r.number as u64, r.place as u64);
-        }
+        Outcome::Refused(r) => { batch::put_head(stream, r.number as u64, r.place as u64) }
         Outcome::Accepted(counts) => {
             answer(
+                stream,
                 codes,
                 counts,
                 &names,
@@ -198,47 +206,63 @@ fn answer_one(text: &[u8], codes: &[u8]) {
                 &definitions,
                 &ranges,
                 &references,
-            );
+            )
         }
     }
 }
 
 // ---- records
 
-fn next_codes(text: &[u8], room: &mut [u8]) -> bool {
-    match batch::next_record(room) {
-        Record::End => false,
+fn next_codes<R: Read, W: Write>(
+    from: &mut R,
+    stream: &mut W,
+    text: &[u8],
+    room: &mut [u8],
+) -> io::Result<bool> {
+    match batch::next_record(from, room)? {
+        Record::End => Ok(false),
         Record::Text(size) => {
             let n = batch::least(room, size);
-            answer_one(text, &room[..n]);
-            true
+            answer_one(stream, text, &room[..n])?;
+            Ok(true)
         }
     }
 }
 
-fn next_pair(text_room: &mut [u8], code_room: &mut [u8]) -> bool {
-    match batch::next_record(text_room) {
-        Record::End => false,
+fn next_pair<R: Read, W: Write>(
+    from: &mut R,
+    stream: &mut W,
+    text_room: &mut [u8],
+    code_room: &mut [u8],
+) -> io::Result<bool> {
+    match batch::next_record(from, text_room)? {
+        Record::End => Ok(false),
         Record::Text(size) => {
             let n = batch::least(text_room, size);
-            next_codes(&text_room[..n], code_room)
+            next_codes(from, stream, &text_room[..n], code_room)
         }
     }
 }
 
-// Nothing says that input ends, so the loop counts its turns down from a number that no run uses up.
-fn answer_all(text_room: &mut [u8], code_room: &mut [u8]) {
-    let mut left = u64::MAX;
-    while 0 < left {
-        if !next_pair(text_room, code_room) {
-            return;
+// Nothing says that input ends, so the loop has a number of turns that no run uses up.
+fn answer_all<R: Read, W: Write>(
+    from: &mut R,
+    stream: &mut W,
+    text_room: &mut [u8],
+    code_room: &mut [u8],
+) -> io::Result<()> {
+    for _ in 0..u64::MAX {
+        if !next_pair(from, stream, text_room, code_room)? {
+            return stream.flush();
         }
-        left -= 1;
     }
+    stream.flush()
 }
 
-fn main() {
+fn main(rt: HostRuntime) -> io::Result<()> {
     let mut text_room = [0u8; TEXT_ROOM];
     let mut code_room = [0u8; CODE_ROOM];
-    answer_all(&mut text_room, &mut code_room);
+    let mut from = BufReader::new(rt.alloc(), rt.reader())?;
+    let mut stream = BufWriter::new(rt.alloc(), io::writer(&rt))?;
+    answer_all(&mut from, &mut stream, &mut text_room, &mut code_room)
 }

@@ -2,9 +2,11 @@
 use crate::rooms::{is_left_u16, is_left_u32, least_u16, least_u32};
 use crate::writer::{add_count, add_runs, add_u8, add_u16s, add_u32s};
 use paper::BMP_SIZE;
+use std::io;
+use std::io::Write;
 
 // For each builder the number of its refusal or 0, and how many places of its rooms are used.
-#[derive(Drop)]
+#[derive(Clone, Copy)]
 pub struct Tables {
     pub number: u32,
     pub rows: usize,
@@ -67,30 +69,56 @@ fn flat_left(t: Tables, index: &[u32], flat_pool: &[u16]) -> bool {
     is_left_u16(flat_pool, t.flat_places)
 }
 
-fn add_counts(out: &mut [u8], at: usize, t: Tables, sound: bool) -> usize {
-    let mut to = add_u8(out, at, verdict(t.number, sound));
-    to = add_count(out, to, t.rows);
-    add_count(out, to, t.places)
+fn add_counts<W: Write>(
+    stream: &mut W,
+    out: &mut [u8],
+    at: usize,
+    t: Tables,
+    sound: bool,
+) -> io::Result<usize> {
+    let mut to = add_u8(stream, out, at, verdict(t.number, sound))?;
+    to = add_count(stream, out, to, t.rows)?;
+    add_count(stream, out, to, t.places)
 }
 
-fn add_u32_part(out: &mut [u8], at: usize, numbers: &[u32], used: usize) -> usize {
+fn add_u32_part<W: Write>(
+    stream: &mut W,
+    out: &mut [u8],
+    at: usize,
+    numbers: &[u32],
+    used: usize,
+) -> io::Result<usize> {
     let n = least_u32(numbers, used);
-    add_u32s(out, at, &numbers[..n])
+    add_u32s(stream, out, at, &numbers[..n])
 }
 
-fn add_u16_part(out: &mut [u8], at: usize, numbers: &[u16], used: usize) -> usize {
+fn add_u16_part<W: Write>(
+    stream: &mut W,
+    out: &mut [u8],
+    at: usize,
+    numbers: &[u16],
+    used: usize,
+) -> io::Result<usize> {
     let n = least_u16(numbers, used);
-    add_u16s(out, at, &numbers[..n])
+    add_u16s(stream, out, at, &numbers[..n])
 }
 
 // Lengths, and the pool that they cut.
-fn add_pool(out: &mut [u8], at: usize, t: Tables, lengths: &[u16], pool: &[u16]) -> usize {
-    let to = add_u16_part(out, at, lengths, t.rows);
-    add_u16_part(out, to, pool, t.places)
+fn add_pool<W: Write>(
+    stream: &mut W,
+    out: &mut [u8],
+    at: usize,
+    t: Tables,
+    lengths: &[u16],
+    pool: &[u16],
+) -> io::Result<usize> {
+    let to = add_u16_part(stream, out, at, lengths, t.rows)?;
+    add_u16_part(stream, out, to, pool, t.places)
 }
 
 // Boundaries, starts, lengths and the pool behind the counts.
-pub fn add_rows(
+pub fn add_rows<W: Write>(
+    stream: &mut W,
     out: &mut [u8],
     at: usize,
     t: Tables,
@@ -98,20 +126,27 @@ pub fn add_rows(
     starts: &[u32],
     lengths: &[u16],
     pool: &[u16],
-) -> usize {
+) -> io::Result<usize> {
     let sound = rows_left(t, boundaries, starts, lengths, pool);
-    let mut to = add_counts(out, at, t, sound);
-    to = add_u32_part(out, to, boundaries, t.rows);
-    to = add_u32_part(out, to, starts, t.rows);
-    add_pool(out, to, t, lengths, pool)
+    let mut to = add_counts(stream, out, at, t, sound)?;
+    to = add_u32_part(stream, out, to, boundaries, t.rows)?;
+    to = add_u32_part(stream, out, to, starts, t.rows)?;
+    add_pool(stream, out, to, t, lengths, pool)
 }
 
 // The pool behind its count, and the index by its runs.
-pub fn add_flat(out: &mut [u8], at: usize, t: Tables, index: &[u32], flat_pool: &[u16]) -> usize {
+pub fn add_flat<W: Write>(
+    stream: &mut W,
+    out: &mut [u8],
+    at: usize,
+    t: Tables,
+    index: &[u32],
+    flat_pool: &[u16],
+) -> io::Result<usize> {
     let sound = flat_left(t, index, flat_pool);
-    let mut to = add_u8(out, at, verdict(t.flat_number, sound));
-    to = add_count(out, to, t.flat_places);
-    to = add_u16_part(out, to, flat_pool, t.flat_places);
+    let mut to = add_u8(stream, out, at, verdict(t.flat_number, sound))?;
+    to = add_count(stream, out, to, t.flat_places)?;
+    to = add_u16_part(stream, out, to, flat_pool, t.flat_places)?;
     let n = least_u32(index, t.entries);
-    add_runs(out, to, &index[..n])
+    add_runs(stream, out, to, &index[..n])
 }

@@ -1,10 +1,14 @@
 // Our side of oracle/compare --unk: reads a char.def, an unk.def and numbers from standard input, each behind its length in four bytes, and so on, and
 // writes the answer to each unk.def in the form of oracle/README.md: number and place, then counts and the used parts of the tables, then what
 // stands under each number; 255 and a table's number where memory is not as document 01 says, 254 where the char.def is refused.
+#![tactic(auto)]
+
 mod words;
 
 use batch::{FAULT, FILL, GUARD, Record, TEXT_ROOM, few, is_kept, put_part, put_u16};
 use paper::{Counts, Outcome};
+use std::io;
+use std::io::{BufReader, BufWriter, Read, Write};
 use unk::UnkOutcome;
 use unk_enter::UnkCounts;
 
@@ -38,7 +42,7 @@ const NO_READING: u64 = 254;
 const FIRST_ZERO: u32 = 4;
 
 // How many bytes of each table are used, and what stands behind them up to the size.
-#[derive(Drop)]
+#[derive(Clone, Copy)]
 pub struct Used {
     pub entries: usize,
     pub offsets: usize,
@@ -94,7 +98,7 @@ fn rest_after(number: u32) -> u8 {
     if number < FIRST_ZERO { FILL } else { 0 }
 }
 
-fn used_by(answer: UnkOutcome, categories: usize, members: usize) -> Used {
+fn used_by(answer: &UnkOutcome, categories: usize, members: usize) -> Used {
     match answer {
         UnkOutcome::Accepted(c) => Used {
             entries: few(c.entries) * 8,
@@ -117,15 +121,21 @@ fn used_by(answer: UnkOutcome, categories: usize, members: usize) -> Used {
 
 // ---- an answer
 
-fn put_counts(c: UnkCounts, categories: usize, members: usize) {
-    batch::put_head(0, 0);
-    put_u16(c.entries);
-    put_u16(members);
-    put_u16(categories);
-    batch::put_u32(c.bytes);
+fn put_counts<W: Write>(
+    out: &mut W,
+    c: UnkCounts,
+    categories: usize,
+    members: usize,
+) -> io::Result<()> {
+    batch::put_head(out, 0, 0)?;
+    put_u16(out, c.entries)?;
+    put_u16(out, members)?;
+    put_u16(out, categories)?;
+    batch::put_u32(out, c.bytes)
 }
 
-fn put_answer(
+fn put_answer<W: Write>(
+    out: &mut W,
     answer: UnkOutcome,
     numbers: &[u8],
     categories: usize,
@@ -134,33 +144,31 @@ fn put_answer(
     details: &[u8],
     places: &[u8],
     members: &[u8],
-) {
+) -> io::Result<()> {
     let found = listed(places, categories);
-    let u = used_by(answer, categories, found);
+    let u = used_by(&answer, categories, found);
     let wrong = fault(u, entries, offsets, details, places, members);
     if wrong != 0 {
-        batch::put_head(FAULT, wrong - 1);
-        return;
+        return batch::put_head(out, FAULT, wrong - 1);
     }
     match answer {
-        UnkOutcome::Refused(r) => {
-            batch::put_head(r.number as u64, r.place as u64);
-        }
+        UnkOutcome::Refused(r) => { batch::put_head(out, r.number as u64, r.place as u64) }
         UnkOutcome::Accepted(c) => {
-            put_counts(c, categories, found);
-            put_part(entries, u.entries);
-            put_part(offsets, u.offsets);
-            put_part(details, u.details);
-            put_part(places, u.places);
-            put_part(members, u.members);
+            put_counts(out, c, categories, found)?;
+            put_part(out, entries, u.entries)?;
+            put_part(out, offsets, u.offsets)?;
+            put_part(out, details, u.details)?;
+            put_part(out, places, u.places)?;
+            put_part(out, members, u.members)?;
             words::put_all(
-                numbers, categories, c.entries, entries, offsets, details, places, members,
-            );
+                out, numbers, categories, c.entries, entries, offsets, details, places, members,
+            )
         }
     }
 }
 
-fn answer<'a>(
+fn answer<'a, W: Write>(
+    out: &mut W,
     text: &[u8],
     numbers: &[u8],
     counts: Counts,
@@ -174,7 +182,7 @@ fn answer<'a>(
     details: &mut [u8],
     places: &mut [u8],
     members: &mut [u8],
-) {
+) -> io::Result<()> {
     let found = unk::parse_unk(
         names,
         categories,
@@ -190,6 +198,7 @@ fn answer<'a>(
         members,
     );
     put_answer(
+        out,
         found,
         numbers,
         counts.categories,
@@ -198,10 +207,11 @@ fn answer<'a>(
         details,
         places,
         members,
-    );
+    )
 }
 
-fn answer_over<'a>(
+fn answer_over<'a, W: Write>(
+    out: &mut W,
     text: &[u8],
     numbers: &[u8],
     counts: Counts,
@@ -210,13 +220,14 @@ fn answer_over<'a>(
     definitions: &'a [u8],
     ranges: &'a [u8],
     references: &'a [u8],
-) {
+) -> io::Result<()> {
     let mut entries = [FILL; ENTRIES];
     let mut offsets = [FILL; OFFSETS];
     let mut details = [FILL; DETAILS];
     let mut places = [FILL; PLACES];
     let mut members = [FILL; MEMBERS];
     answer(
+        out,
         text,
         numbers,
         counts,
@@ -230,10 +241,15 @@ fn answer_over<'a>(
         &mut details,
         &mut places,
         &mut members,
-    );
+    )
 }
 
-fn answer_one(char_def: &[u8], text: &[u8], numbers: &[u8]) {
+fn answer_one<W: Write>(
+    out: &mut W,
+    char_def: &[u8],
+    text: &[u8],
+    numbers: &[u8],
+) -> io::Result<()> {
     let mut names = [0u8; NAMES];
     let mut categories = [0u8; CATEGORIES];
     let mut definitions = [0u8; DEFINITIONS];
@@ -247,11 +263,10 @@ fn answer_one(char_def: &[u8], text: &[u8], numbers: &[u8]) {
         &mut ranges,
         &mut references,
     ) {
-        Outcome::Refused(_) => {
-            batch::put_head(NO_READING, 0);
-        }
+        Outcome::Refused(_) => { batch::put_head(out, NO_READING, 0) }
         Outcome::Accepted(counts) => {
             answer_over(
+                out,
                 text,
                 numbers,
                 counts,
@@ -260,58 +275,89 @@ fn answer_one(char_def: &[u8], text: &[u8], numbers: &[u8]) {
                 &definitions,
                 &ranges,
                 &references,
-            );
+            )
         }
     }
 }
 
 // ---- records
 
-fn next_numbers(char_def: &[u8], text: &[u8], room: &mut [u8]) -> bool {
-    match batch::next_record(room) {
-        Record::End => false,
+fn next_numbers<R: Read, W: Write>(
+    from: &mut R,
+    out: &mut W,
+    char_def: &[u8],
+    text: &[u8],
+    room: &mut [u8],
+) -> io::Result<bool> {
+    match batch::next_record(from, room)? {
+        Record::End => Ok(false),
         Record::Text(size) => {
             let n = batch::least(room, size);
-            answer_one(char_def, text, &room[..n]);
-            true
+            answer_one(out, char_def, text, &room[..n])?;
+            Ok(true)
         }
     }
 }
 
-fn next_text(char_def: &[u8], room: &mut [u8], number_room: &mut [u8]) -> bool {
-    match batch::next_record(room) {
-        Record::End => false,
+fn next_text<R: Read, W: Write>(
+    from: &mut R,
+    out: &mut W,
+    char_def: &[u8],
+    room: &mut [u8],
+    number_room: &mut [u8],
+) -> io::Result<bool> {
+    match batch::next_record(from, room)? {
+        Record::End => Ok(false),
         Record::Text(size) => {
             let n = batch::least(room, size);
-            next_numbers(char_def, &room[..n], number_room)
+            next_numbers(from, out, char_def, &room[..n], number_room)
         }
     }
 }
 
-fn next_three(char_room: &mut [u8], room: &mut [u8], number_room: &mut [u8]) -> bool {
-    match batch::next_record(char_room) {
-        Record::End => false,
+fn next_three<R: Read, W: Write>(
+    from: &mut R,
+    out: &mut W,
+    char_room: &mut [u8],
+    room: &mut [u8],
+    number_room: &mut [u8],
+) -> io::Result<bool> {
+    match batch::next_record(from, char_room)? {
+        Record::End => Ok(false),
         Record::Text(size) => {
             let n = batch::least(char_room, size);
-            next_text(&char_room[..n], room, number_room)
+            next_text(from, out, &char_room[..n], room, number_room)
         }
     }
 }
 
-// Nothing says that input ends, so the loop counts its turns down from a number that no run uses up.
-fn answer_all(char_room: &mut [u8], room: &mut [u8], number_room: &mut [u8]) {
-    let mut left = u64::MAX;
-    while 0 < left {
-        if !next_three(char_room, room, number_room) {
-            return;
+// Nothing says that input ends, so the loop has a number of turns that no run uses up.
+fn answer_all<R: Read, W: Write>(
+    from: &mut R,
+    out: &mut W,
+    char_room: &mut [u8],
+    room: &mut [u8],
+    number_room: &mut [u8],
+) -> io::Result<()> {
+    for _ in 0..u64::MAX {
+        if !next_three(from, out, char_room, room, number_room)? {
+            return out.flush();
         }
-        left -= 1;
     }
+    out.flush()
 }
 
-fn main() {
+fn main(rt: HostRuntime) -> io::Result<()> {
     let mut char_room = [0u8; TEXT_ROOM];
     let mut room = [0u8; TEXT_ROOM];
     let mut number_room = [0u8; NUMBER_ROOM];
-    answer_all(&mut char_room, &mut room, &mut number_room);
+    let mut from = BufReader::new(rt.alloc(), rt.reader())?;
+    let mut out = BufWriter::new(rt.alloc(), io::writer(&rt))?;
+    answer_all(
+        &mut from,
+        &mut out,
+        &mut char_room,
+        &mut room,
+        &mut number_room,
+    )
 }

@@ -1,5 +1,7 @@
 // What bench/ calls besides crate `terminal`: the proved functions that are not exported to C, each behind an entry on numbers and slices. Only
 // bench/ links these. An entry promises nothing of its own: it answers 0 or the refusal's number, and `said` gets the sizes.
+#![tactic(auto)]
+
 use paper::Counts;
 
 const DEFINITIONS_AT: usize = 2;
@@ -27,8 +29,7 @@ fn say(said: &mut [u64], at: usize, number: u64) {
     }
 }
 
-#[unsafe(no_mangle)]
-pub extern "C" fn bench_rows<'a>(
+pub fn bench_rows<'a>(
     names: &'a [u8],
     categories: &'a [u8],
     definitions: &'a [u8],
@@ -62,8 +63,7 @@ pub extern "C" fn bench_rows<'a>(
     }
 }
 
-#[unsafe(no_mangle)]
-pub extern "C" fn bench_flat<'a>(
+pub fn bench_flat<'a>(
     names: &'a [u8],
     categories: &'a [u8],
     definitions: &'a [u8],
@@ -101,12 +101,11 @@ fn weight(row: &[u16]) -> u64 {
     if row.len() == 0 {
         return 0;
     }
-    std::num::wrapping_add_u64(row.len() as u64, wide(row[0]))
+    (row.len() as u64).wrapping_add(wide(row[0]))
 }
 
 // The lookups of a whole text, summed up so that none can be left out.
-#[unsafe(no_mangle)]
-pub extern "C" fn bench_lookups<'a>(
+pub fn bench_lookups<'a>(
     flat_index: &[u32],
     flat_pool: &'a [u16],
     boundaries: &[u32],
@@ -116,8 +115,7 @@ pub extern "C" fn bench_lookups<'a>(
     codes: &[u32],
 ) -> u64 {
     let mut sum: u64 = 0;
-    let mut i = 0;
-    while i < codes.len() {
+    for i in 0..codes.len() {
         let row = lookup::lookup_categories(
             flat_index,
             flat_pool,
@@ -127,8 +125,7 @@ pub extern "C" fn bench_lookups<'a>(
             row_pool,
             codes[i],
         );
-        sum = std::num::wrapping_add_u64(sum, weight(row));
-        i += 1;
+        sum = sum.wrapping_add(weight(row));
     }
     sum
 }
@@ -136,25 +133,21 @@ pub extern "C" fn bench_lookups<'a>(
 // What one packed lookup gives for the sum: where the part stands, and how long it is.
 fn packed_weight(flat_index: &[u32], c: u32) -> u64 {
     match packed::lookup_categories_packed(flat_index, c) {
-        packed::PackedFound::At(p) => std::num::wrapping_add_u64(p.offset as u64, p.len as u64),
+        packed::PackedFound::At(p) => (p.offset as u64).wrapping_add(p.len as u64),
         packed::PackedFound::Absent => 0,
         packed::PackedFound::Refused(_) => 0,
     }
 }
 
-#[unsafe(no_mangle)]
-pub extern "C" fn bench_packed_lookups(flat_index: &[u32], codes: &[u32]) -> u64 {
+pub fn bench_packed_lookups(flat_index: &[u32], codes: &[u32]) -> u64 {
     let mut sum: u64 = 0;
-    let mut i = 0;
-    while i < codes.len() {
-        sum = std::num::wrapping_add_u64(sum, packed_weight(flat_index, codes[i]));
-        i += 1;
+    for i in 0..codes.len() {
+        sum = sum.wrapping_add(packed_weight(flat_index, codes[i]));
     }
     sum
 }
 
-#[unsafe(no_mangle)]
-pub extern "C" fn bench_read_unk<'a>(
+pub fn bench_read_unk<'a>(
     names: &'a [u8],
     categories: &'a [u8],
     definitions: &'a [u8],
@@ -192,8 +185,7 @@ pub extern "C" fn bench_read_unk<'a>(
     }
 }
 
-#[unsafe(no_mangle)]
-pub extern "C" fn bench_write_pack<'a>(
+pub fn bench_write_pack<'a>(
     names: &'a [u8],
     categories: &'a [u8],
     definitions: &'a [u8],

@@ -11,16 +11,14 @@ use exported::COUNTS_SIZE;
 use paper::ROOM_SHORT;
 
 // The length of the longest well-formed prefix.
-#[unsafe(no_mangle)]
-pub extern "C" fn twinebeetle_valid_prefix(text: &[u8]) -> u64
+pub fn twinebeetle_valid_prefix(text: &[u8]) -> u64
     ensures { LongestPrefix result text.now }
 {
     text::valid_prefix(text) as u64
 }
 
 // char.def read into lent tables.
-#[unsafe(no_mangle)]
-pub extern "C" fn twinebeetle_read_char_def(
+pub fn twinebeetle_read_char_def(
     text: &[u8],
     names: &mut [u8],
     categories: &mut [u8],
@@ -29,7 +27,7 @@ pub extern "C" fn twinebeetle_read_char_def(
     references: &mut [u8],
     counts: &mut [u8],
 ) -> u64
-    ensures { Exports (read_text text.now) (record { names = names.entry.now; categories = categories.old; definitions = definitions.old; ranges = ranges.old; references = references.old }) (record { names = names.exit.now; categories = categories.new; definitions = definitions.new; ranges = ranges.new; references = references.new }) counts.old counts.new result }
+    ensures { Exports (read_text text.now) (record { names = names.old; categories = categories.old; definitions = definitions.old; ranges = ranges.old; references = references.old }) (record { names = names.new; categories = categories.new; definitions = definitions.new; ranges = ranges.new; references = references.new }) counts.old counts.new result }
 {
     if counts.len() < COUNTS_SIZE {
         return ROOM_SHORT as u64;
@@ -39,8 +37,7 @@ pub extern "C" fn twinebeetle_read_char_def(
 }
 
 // A pack read into lent tables: "the terminal's C loader calls the pack reader".
-#[unsafe(no_mangle)]
-pub extern "C" fn twinebeetle_read_pack(
+pub fn twinebeetle_read_pack(
     pack: &[u8],
     names: &mut [u8],
     categories: &mut [u8],
@@ -49,7 +46,7 @@ pub extern "C" fn twinebeetle_read_pack(
     references: &mut [u8],
     counts: &mut [u8],
 ) -> u64
-    ensures { Exports (read_pack pack.now) (record { names = names.entry.now; categories = categories.old; definitions = definitions.old; ranges = ranges.old; references = references.old }) (record { names = names.exit.now; categories = categories.new; definitions = definitions.new; ranges = ranges.new; references = references.new }) counts.old counts.new result }
+    ensures { Exports (read_pack pack.now) (record { names = names.old; categories = categories.old; definitions = definitions.old; ranges = ranges.old; references = references.old }) (record { names = names.new; categories = categories.new; definitions = definitions.new; ranges = ranges.new; references = references.new }) counts.old counts.new result }
 {
     if counts.len() < COUNTS_SIZE {
         return ROOM_SHORT as u64;

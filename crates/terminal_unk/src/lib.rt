@@ -70,8 +70,7 @@ fn give(outcome: UnkOutcome, counts: &mut [u8]) -> u64
 }
 
 // unk.def read into lent tables, over a reading's tables.
-#[unsafe(no_mangle)]
-pub extern "C" fn twinebeetle_read_unk<'a>(
+pub fn twinebeetle_read_unk<'a>(
     text: &[u8],
     names: &'a [u8],
     categories: &'a [u8],
@@ -86,7 +85,7 @@ pub extern "C" fn twinebeetle_read_unk<'a>(
     members: &mut [u8],
     unk_counts: &mut [u8],
 ) -> u64
-    ensures { ExportsUnk (record { names = names.entry.now; categories = categories.now; definitions = definitions.now; ranges = ranges.now; references = references.now }) counts.now text.now (record { entries = entries.entry.now; offsets = offsets.old; details = details.old; places = places.old; members = members.old }) (record { entries = entries.exit.now; offsets = offsets.new; details = details.new; places = places.new; members = members.new }) unk_counts.old unk_counts.new result }
+    ensures { ExportsUnk (record { names = names.now; categories = categories.now; definitions = definitions.now; ranges = ranges.now; references = references.now }) counts.now text.now (record { entries = entries.old; offsets = offsets.old; details = details.old; places = places.old; members = members.old }) (record { entries = entries.new; offsets = offsets.new; details = details.new; places = places.new; members = members.new }) unk_counts.old unk_counts.new result }
 {
     if unk_counts.len() < UNK_COUNTS_SIZE {
         return ROOM_SHORT as u64;
