@@ -48,7 +48,7 @@ const HALF: u64 = 65536;
 const WORD: u64 = 4294967296;
 
 // Kind 0 changes nothing. What follows it in the list begins at next.
-#[derive(Drop)]
+#[derive(Clone, Copy)]
 pub struct Change {
     pub kind: u8,
     pub table: usize,

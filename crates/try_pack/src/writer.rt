@@ -219,7 +219,7 @@ fn refuses<'a>(
 // ---- tables as a line hands them in
 
 // Where the list is read, the counts, which table is lent short (5: none) and how long it is then, and whether the changes end here.
-#[derive(Drop)]
+#[derive(Clone, Copy)]
 pub struct Handed {
     pub at: usize,
     pub counts: Counts,

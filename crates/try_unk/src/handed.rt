@@ -24,7 +24,7 @@ pub const REFERENCES: usize = MAX_REFERENCES * 2 + SPARE;
 const HALF: u64 = 0x1_0000_0000;
 
 // Where the list is read, the counts, how many bytes of each table are handed in, and whether the changes ended here.
-#[derive(Drop)]
+#[derive(Clone, Copy)]
 pub struct Handed {
     pub at: usize,
     pub counts: Counts,
