@@ -8,7 +8,7 @@ pub mod rooms;
 pub mod tally;
 
 ghost use Rattle.std.specs.Prelude.{◌<◌, length};
-ghost use Rattle.io.specs.Counts.{IsPrefixLen};
+ghost use Rattle.replay.specs.Counts.{IsPrefixLen};
 ghost use Rattle.replay.specs.Field.{FieldIn};
 
 // Larger than every number of a list; what would pass it stays.

@@ -5,7 +5,7 @@
 
 mod writer;
 
-use paper::Outcome;
+use paper::{Counts, Outcome};
 use replay::items::Reader;
 use replay::rooms::{CATEGORIES, DEFINITIONS, FILL, NAMES, RANGES, REFERENCES};
 use replay::tally::Tally;
@@ -16,6 +16,14 @@ const LIST_ROOM: usize = 524288;
 const TEXT_ROOM: usize = 73728;
 
 const BASE_ROOM: usize = 40960;
+
+// The counts of a pack that is accepted.
+fn counts_of(answer: &Outcome) -> Option<Counts> {
+    match answer {
+        Outcome::Refused(_) => None,
+        Outcome::Accepted(counts) => Some(*counts),
+    }
+}
 
 // The reader's answer and what it leaves in rooms that are filled, and longer than the sizes.
 fn agrees(
@@ -42,15 +50,16 @@ fn agrees(
         &mut ranges[..d],
         &mut references[..e],
     );
+    let accepted = counts_of(&answer);
     if !replay::rooms::answer_agrees(list, at, answer) {
         return false;
     }
     if !replay::rooms::rooms_agree(list, at, names, categories, definitions, ranges, references) {
         return false;
     }
-    match answer {
-        Outcome::Refused(_) => true,
-        Outcome::Accepted(counts) => writer::writes_back(
+    match accepted {
+        None => true,
+        Some(counts) => writer::writes_back(
             names,
             categories,
             definitions,

@@ -1,6 +1,6 @@
 // The pack writer over the tables that the reader left: the same bytes must come back, into a room that is long enough, with nothing written
 // behind them; and over tables that a line damages, which hold together and are some other pack, or are refused.
-ghost use Rattle.io.specs.Counts.{IsPrefixLen as CountsIn};
+ghost use Rattle.replay.specs.Counts.{IsPrefixLen as CountsIn};
 
 use packer::Written;
 use paper::{Counts, MAX_PACK_BYTES, Outcome, PACK_ROOM_SHORT, TABLES_APART};

@@ -21,6 +21,14 @@ const TEXT_ROOM: usize = 73728;
 
 const BASE_ROOM: usize = 4096;
 
+// How many entries a text that is accepted has.
+fn entries_of(answer: &UnkOutcome) -> Option<usize> {
+    match answer {
+        UnkOutcome::Refused(_) => None,
+        UnkOutcome::Accepted(c) => Some(c.entries),
+    }
+}
+
 // The answer, what the reader leaves in the rooms, and what lookups find there where the text is accepted.
 fn left_agrees(
     list: &[u8],
@@ -33,19 +41,20 @@ fn left_agrees(
     places: &[u8],
     members: &[u8],
 ) -> bool {
+    let accepted = entries_of(&answer);
     if !left::answer_agrees(list, at, answer) {
         return false;
     }
     if !left::rooms_agree(list, at, entries, offsets, details, places, members) {
         return false;
     }
-    match answer {
-        UnkOutcome::Refused(_) => true,
-        UnkOutcome::Accepted(c) => lookups::agree(
+    match accepted {
+        None => true,
+        Some(count) => lookups::agree(
             list,
             left::behind_answer(list, at),
             categories,
-            c.entries,
+            count,
             entries,
             offsets,
             details,
