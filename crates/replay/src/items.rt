@@ -11,7 +11,7 @@ const MOST: u64 = 100000;
 pub const NO_ROOM: usize = 5;
 
 // Where the list is read, how long the text and the base are, which room is short (5: none), and whether a line ended here.
-#[derive(Drop)]
+#[derive(Clone, Copy)]
 pub struct Reader {
     pub at: usize,
     pub size: usize,

@@ -1,18 +1,21 @@
 // Fixed lists that the try_ programs replay: fields between spaces, lines between LFs, numbers and bytes in hex.
 // Every function takes any bytes and any place; what a list does not have is read as 0 or as nothing.
+#![tactic(auto)]
+
+pub mod input;
 pub mod items;
 pub mod rooms;
 pub mod tally;
 
 ghost use Rattle.std.specs.Prelude.{◌<◌, length};
-ghost use Rattle.io.specs.Counts.{IsPrefixLen};
+ghost use Rattle.replay.specs.Counts.{IsPrefixLen};
 ghost use Rattle.replay.specs.Field.{FieldIn};
 
 // Larger than every number of a list; what would pass it stays.
 const TOP: u64 = 0x1_0000_0000_0000;
 
 // A field's bytes stand from start up to end; what follows its space or LF begins at next.
-#[derive(Drop)]
+#[derive(Clone, Copy)]
 pub struct Field {
     pub start: usize,
     pub end: usize,

@@ -1,6 +1,6 @@
 // The rooms that a reader of the tables is lent, and what it must leave in them. Each has bytes behind its size, all is filled before the
 // call, and every byte is looked at afterwards.
-ghost use Rattle.io.specs.Counts.{IsPrefixLen as CountsIn};
+ghost use Rattle.replay.specs.Counts.{IsPrefixLen as CountsIn};
 
 use crate::{after_field, byte_at, field_at, number_at, number_of};
 use paper::{Counts, Outcome, Refusal, TABLES_APART};

@@ -1,6 +1,6 @@
 // What a line changes in the tables that are handed in, one field: an entry (`d`), a length (`s`) or a count (`k`). oracle/README.md has the
 // numbers of the tables.
-ghost use Rattle.io.specs.Counts.{IsPrefixLen as CountsIn};
+ghost use Rattle.replay.specs.Counts.{IsPrefixLen as CountsIn};
 
 use paper::Counts;
 use replay::{after_field, byte_at, number_at};
@@ -48,7 +48,7 @@ const HALF: u64 = 65536;
 const WORD: u64 = 4294967296;
 
 // Kind 0 changes nothing. What follows it in the list begins at next.
-#[derive(Drop)]
+#[derive(Clone, Copy)]
 pub struct Change {
     pub kind: u8,
     pub table: usize,

@@ -1,6 +1,6 @@
 // How many cases of each kind agreed, over tables that are sound and over damaged ones, and how many differed; each that differs is named.
-use libc::STDOUT_FILENO;
 use replay::{after_field, byte_at};
+use std::io::{self, Write};
 
 // Where each kind is counted over sound tables; over damaged ones in the next place. Behind them stands how many differed.
 const ROWS: usize = 0;
@@ -46,39 +46,52 @@ fn bump(tally: &mut [u64], at: usize) {
 }
 
 // The item by its letter and its first word.
-fn say_item(list: &[u8], at: usize) {
+fn say_item(rt: &impl Print, list: &[u8], at: usize) -> io::Result<()> {
     let field = replay::field_at(list, after_field(list, at));
     let end = field.end;
     if end < at {
-        return;
+        return Ok(());
     }
     if list.len() < end {
-        return;
+        return Ok(());
     }
-    io::write_all(STDOUT_FILENO, &list[at..end]);
+    io::writer(rt).write_all(&list[at..end])
 }
 
-pub fn differs(tally: &mut [u64], list: &[u8], at: usize, number: u64) {
-    io::write_all(STDOUT_FILENO, b"line ");
-    io::print_decimal(STDOUT_FILENO, number);
-    io::write_all(STDOUT_FILENO, b": ");
-    say_item(list, at);
-    io::write_all(STDOUT_FILENO, b" differs\n");
+pub fn differs(
+    rt: &impl Print,
+    tally: &mut [u64],
+    list: &[u8],
+    at: usize,
+    number: u64,
+) -> io::Result<()> {
+    print!(rt; "line {number}: ")?;
+    say_item(rt, list, at)?;
+    println!(rt; " differs")?;
     bump(tally, DIFFER);
+    Ok(())
 }
 
 // The case of the item at a place, in a line with this number.
-pub fn note(tally: &mut [u64], list: &[u8], at: usize, number: u64, damaged: bool, agreed: bool) {
+pub fn note(
+    rt: &impl Print,
+    tally: &mut [u64],
+    list: &[u8],
+    at: usize,
+    number: u64,
+    damaged: bool,
+    agreed: bool,
+) -> io::Result<()> {
     if !agreed {
-        differs(tally, list, at, number);
-        return;
+        return differs(rt, tally, list, at, number);
     }
     let kind = kind_of(byte_at(list, at));
     if damaged {
         bump(tally, std::num::wrapping_add_usize(kind, 1));
-        return;
+        return Ok(());
     }
     bump(tally, kind);
+    Ok(())
 }
 
 fn count_at(tally: &[u64], at: usize) -> u64 {
@@ -88,26 +101,22 @@ fn count_at(tally: &[u64], at: usize) -> u64 {
     0
 }
 
-fn say_kind(tally: &[u64], kind: usize, name: &[u8]) {
+fn say_kind(rt: &impl Print, tally: &[u64], kind: usize, name: &str) -> io::Result<()> {
     let damaged = std::num::wrapping_add_usize(kind, 1);
-    io::write_all(STDOUT_FILENO, name);
-    io::write_all(STDOUT_FILENO, b": ");
-    io::print_decimal(STDOUT_FILENO, count_at(tally, kind));
-    io::write_all(STDOUT_FILENO, b" agreed, ");
-    io::print_decimal(STDOUT_FILENO, count_at(tally, damaged));
-    io::write_all(STDOUT_FILENO, b" more over damaged tables\n");
+    let sound = count_at(tally, kind);
+    let more = count_at(tally, damaged);
+    println!(rt; "{name}: {sound} agreed, {more} more over damaged tables")
 }
 
-pub fn say(tally: &[u64]) {
-    say_kind(tally, ROWS, b"rows");
-    say_kind(tally, FLAT, b"flat tables");
-    say_kind(tally, NUMBERS, b"names and definitions by number");
-    say_kind(tally, NAMES, b"numbers by name");
-    say_kind(tally, SUMS, b"sums over the BMP");
-    say_kind(tally, LOOKUPS, b"lookups");
-    say_kind(tally, PACKED, b"packed lookups");
-    say_kind(tally, PLACES, b"places of the flat pool");
-    say_kind(tally, SEARCHES, b"searches among boundaries");
-    io::print_decimal(STDOUT_FILENO, count_at(tally, DIFFER));
-    io::write_all(STDOUT_FILENO, b" differed\n");
+pub fn say(rt: &impl Print, tally: &[u64]) -> io::Result<()> {
+    say_kind(rt, tally, ROWS, "rows")?;
+    say_kind(rt, tally, FLAT, "flat tables")?;
+    say_kind(rt, tally, NUMBERS, "names and definitions by number")?;
+    say_kind(rt, tally, NAMES, "numbers by name")?;
+    say_kind(rt, tally, SUMS, "sums over the BMP")?;
+    say_kind(rt, tally, LOOKUPS, "lookups")?;
+    say_kind(rt, tally, PACKED, "packed lookups")?;
+    say_kind(rt, tally, PLACES, "places of the flat pool")?;
+    say_kind(rt, tally, SEARCHES, "searches among boundaries")?;
+    println!(rt; "{} differed", count_at(tally, DIFFER))
 }

@@ -6,6 +6,7 @@ use paper::{NOT_SCALAR, Refusal};
 use replay::rooms::field_behind;
 use replay::{after_field, byte_at, number_at};
 use replay_line::{sums, tally, words};
+use std::io;
 
 const BMP: u32 = 65536;
 
@@ -271,6 +272,7 @@ fn behind(list: &[u8], at: usize) -> usize {
 
 // Notes the items at a place, up to the first that is none of these; where that is.
 pub fn noted<'a>(
+    rt: &impl Print,
     list: &[u8],
     start: usize,
     index: &[u32],
@@ -282,18 +284,18 @@ pub fn noted<'a>(
     damaged: bool,
     number: u64,
     tally: &mut [u64],
-) -> usize {
+) -> io::Result<usize> {
     let mut at = start;
     let mut left = list.len();
     while 0 < left {
         left -= 1;
         let next = behind(list, at);
         if next == at {
-            return at;
+            return Ok(at);
         }
         let agreed = agrees(list, at, index, flat, boundaries, starts, lengths, pool);
-        tally::note(tally, list, at, number, damaged, agreed);
+        tally::note(rt, tally, list, at, number, damaged, agreed)?;
         at = next;
     }
-    at
+    Ok(at)
 }

@@ -5,6 +5,7 @@ use paper::Counts;
 use replay::rooms::field_behind;
 use replay::{after_field, byte_at, number_at};
 use replay_line::{tally, words};
+use std::io;
 
 const BYTE: u32 = 256;
 
@@ -120,6 +121,7 @@ fn behind(list: &[u8], at: usize) -> usize {
 
 // Notes the items at a place, up to the first that is none of these; where that is.
 pub fn noted(
+    rt: &impl Print,
     list: &[u8],
     start: usize,
     names: &[u8],
@@ -129,18 +131,18 @@ pub fn noted(
     damaged: bool,
     number: u64,
     tally: &mut [u64],
-) -> usize {
+) -> io::Result<usize> {
     let mut at = start;
     let mut left = list.len();
     while 0 < left {
         left -= 1;
         let next = behind(list, at);
         if next == at {
-            return at;
+            return Ok(at);
         }
         let agreed = agrees(list, at, names, categories, definitions, counts);
-        tally::note(tally, list, at, number, damaged, agreed);
+        tally::note(rt, tally, list, at, number, damaged, agreed)?;
         at = next;
     }
-    at
+    Ok(at)
 }

@@ -7,6 +7,7 @@ use replay::rooms::field_behind;
 use replay::{after_field, byte_at, number_at};
 use replay_line::change::{BEHIND, Change};
 use replay_line::{change, sums, tally, words};
+use std::io;
 
 pub const BMP: usize = 65536;
 
@@ -146,6 +147,7 @@ fn all_agree(
 
 // Notes the item, where it is one of a flat table; where the item behind it begins.
 pub fn noted(
+    rt: &impl Print,
     list: &[u8],
     a: Asked,
     reading: &[u8],
@@ -155,15 +157,15 @@ pub fn noted(
     pool: &mut [u16],
     number: u64,
     tally: &mut [u64],
-) -> usize {
+) -> io::Result<usize> {
     let letter = byte_at(list, a.at);
     if letter != b'f' && letter != b'u' {
-        return a.at;
+        return Ok(a.at);
     }
     let agreed = all_agree(list, a, reading, counts, c, index, pool);
-    tally::note(tally, list, a.at, number, c.kind != 0, agreed);
+    tally::note(rt, tally, list, a.at, number, c.kind != 0, agreed)?;
     if letter == b'f' {
-        return field_behind(list, a.at, 3);
+        return Ok(field_behind(list, a.at, 3));
     }
-    field_behind(list, a.at, 2)
+    Ok(field_behind(list, a.at, 2))
 }

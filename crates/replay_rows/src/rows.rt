@@ -33,7 +33,7 @@ const TRIES: usize = 6;
 const BUILT: u64 = 0;
 
 // What an item at a place asks: rows, places, or the refusal; and the try.
-#[derive(Drop)]
+#[derive(Clone, Copy)]
 pub struct Asked {
     pub at: usize,
     pub rows: usize,

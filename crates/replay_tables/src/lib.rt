@@ -1,14 +1,18 @@
 // What a line of oracle/lists/rows.txt asks of a reading, for try_lookup: its tables are changed, rows and a flat table are built of them, and each item
 // is noted.
+#![tactic(auto)]
+
 use paper::Counts;
 use replay_line::change::Change;
 use replay_line::{change, tally};
 use replay_lookup::{lookups, numbers};
 use replay_rows::rows::{Asked, FILL16, FILL32};
 use replay_rows::{flats, rows};
+use std::io;
 
 // The lookups of a line, over tables that are lent as long as they were built, but for one that the line cuts.
 fn looked<'a>(
+    rt: &impl Print,
     list: &[u8],
     at: usize,
     a: Asked,
@@ -22,8 +26,9 @@ fn looked<'a>(
     pool: &'a [u16],
     number: u64,
     tally: &mut [u64],
-) -> usize {
+) -> io::Result<usize> {
     lookups::noted(
+        rt,
         list,
         at,
         change::part32(index, change::length(change::INDEX, f.rows, c)),
@@ -58,6 +63,7 @@ fn put_flat(index: &mut [u32], flat: &mut [u16], c: Change) {
 
 // The flat table of a line, where it has one, and then the change of what was built.
 fn flatted(
+    rt: &impl Print,
     list: &[u8],
     at: usize,
     a: Asked,
@@ -70,21 +76,22 @@ fn flatted(
     pool: &mut [u16],
     number: u64,
     tally: &mut [u64],
-) -> usize {
+) -> io::Result<usize> {
     let mut index = flats::index_room();
     let mut flat = flats::pool_room();
     let f = flats::asked_at(list, at);
     let next = flats::noted(
-        list, f, reading, counts, c, &mut index, &mut flat, number, tally,
-    );
+        rt, list, f, reading, counts, c, &mut index, &mut flat, number, tally,
+    )?;
     put_rows(boundaries, starts, lengths, pool, c);
     put_flat(&mut index, &mut flat, c);
     looked(
-        list, next, a, f, c, &index, &flat, boundaries, starts, lengths, pool, number, tally,
+        rt, list, next, a, f, c, &index, &flat, boundaries, starts, lengths, pool, number, tally,
     )
 }
 
 fn rowed(
+    rt: &impl Print,
     list: &[u8],
     at: usize,
     reading: &[u8],
@@ -92,7 +99,7 @@ fn rowed(
     c: Change,
     number: u64,
     tally: &mut [u64],
-) -> usize {
+) -> io::Result<usize> {
     let mut boundaries = [FILL32; rows::ROWS];
     let mut starts = [FILL32; rows::ROWS];
     let mut lengths = [FILL16; rows::ROWS];
@@ -109,8 +116,9 @@ fn rowed(
         &mut lengths,
         &mut pool,
     );
-    tally::note(tally, list, at, number, c.kind != 0, agreed);
+    tally::note(rt, tally, list, at, number, c.kind != 0, agreed)?;
     flatted(
+        rt,
         list,
         rows::behind(list, a),
         a,
@@ -128,17 +136,19 @@ fn rowed(
 
 // A reading's tables as the line changes them: names and numbers, then rows.
 pub fn handed(
+    rt: &impl Print,
     list: &[u8],
     at: usize,
     counts: Counts,
     reading: &mut [u8],
     number: u64,
     tally: &mut [u64],
-) -> usize {
+) -> io::Result<usize> {
     let c = change::change_at(list, at);
     change::damage(reading, c);
     let handed = change::counted(counts, c);
     let next = numbers::noted(
+        rt,
         list,
         c.next,
         change::table(reading, 0, 0, change::NAMES, c),
@@ -148,6 +158,6 @@ pub fn handed(
         c.kind != 0,
         number,
         tally,
-    );
-    rowed(list, next, reading, handed, c, number, tally)
+    )?;
+    rowed(rt, list, next, reading, handed, c, number, tally)
 }

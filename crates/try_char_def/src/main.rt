@@ -1,9 +1,11 @@
 // Replays oracle/lists/char_def.txt over the reader of char.def: the Rust's readings and refusals, the paper's limits, rooms one byte short.
 // oracle/README.md has the list's form. Every room is lent with bytes behind its size, and all of them are looked at afterwards.
-use libc::STDIN_FILENO;
+#![tactic(auto)]
+
 use replay::items::Reader;
 use replay::rooms::{CATEGORIES, DEFINITIONS, FILL, NAMES, RANGES, REFERENCES};
 use replay::tally::Tally;
+use std::io;
 
 const LIST_ROOM: usize = 524288;
 
@@ -62,19 +64,26 @@ fn tried(list: &[u8], at: usize, text: &[u8], short: usize) -> bool {
 }
 
 // What a line's last item asks: a base asks nothing.
-fn asked(t: Tally, list: &[u8], r: Reader, text: &[u8], number: u64) -> Tally {
+fn asked(
+    rt: &impl Print,
+    t: Tally,
+    list: &[u8],
+    r: Reader,
+    text: &[u8],
+    number: u64,
+) -> io::Result<Tally> {
     let at = r.at;
     let size = r.size;
     if replay::byte_at(list, at) == b'b' {
-        return t;
+        return Ok(t);
     }
     if text.len() < size {
-        return replay::tally::noted(t, false, number);
+        return replay::tally::noted(rt, t, false, number);
     }
-    replay::tally::noted(t, tried(list, at, &text[..size], r.short), number)
+    replay::tally::noted(rt, t, tried(list, at, &text[..size], r.short), number)
 }
 
-fn replay_all(list: &[u8]) -> Tally {
+fn replay_all(rt: &impl Print, list: &[u8]) -> io::Result<Tally> {
     let mut text = [0u8; TEXT_ROOM];
     let mut base = [0u8; BASE_ROOM];
     let mut t = Tally {
@@ -91,15 +100,16 @@ fn replay_all(list: &[u8]) -> Tally {
             number = std::num::wrapping_add_u64(number, 1);
             let r = replay::items::built(list, at, kept, &mut text, &mut base);
             kept = r.base;
-            t = asked(t, list, r, &text, number);
+            t = asked(rt, t, list, r, &text, number)?;
             at = replay::next_line(list, at);
         }
     }
-    t
+    Ok(t)
 }
 
-fn main() {
-    let mut room = [0u8; LIST_ROOM];
-    let n = io::read_full(STDIN_FILENO, &mut room);
-    replay::tally::say(replay_all(&room[..n]));
+fn main(rt: HostRuntime) -> io::Result<()> {
+    let mut room = vec![in rt.alloc(); 0u8; LIST_ROOM]?;
+    let n = replay::input::read_full(&mut rt.reader(), &mut room)?;
+    let t = replay_all(&rt, &room[..n])?;
+    replay::tally::say(&rt, t)
 }

@@ -1,9 +1,12 @@
 // Replays oracle/lists/rows.txt over the builders of rows and flat tables and over all lookups: the Rust's rows, flat tables, lookups, names and
 // definitions, rooms one place short, and tables with one field damaged. oracle/README.md has the list's form.
-use libc::STDIN_FILENO;
+#![tactic(auto)]
+
 use paper::Outcome;
 use replay::items::Reader;
 use replay_line::{change, tally};
+use std::alloc::{AllocError, Global};
+use std::io;
 
 // The list is read in two halves, and the first one ends with a line.
 const HALF: usize = 524288;
@@ -20,7 +23,14 @@ fn lay(reading: &mut [u8], start: usize, table: &[u8]) {
 }
 
 // The reading of a text, its tables one behind another; how far the line is read then, 0 where the text is refused.
-fn tried(list: &[u8], at: usize, text: &[u8], number: u64, tally: &mut [u64]) -> usize {
+fn tried(
+    rt: &impl Print,
+    list: &[u8],
+    at: usize,
+    text: &[u8],
+    number: u64,
+    tally: &mut [u64],
+) -> io::Result<usize> {
     let mut names = [0u8; change::NAMES];
     let mut categories = [0u8; change::CATEGORIES];
     let mut definitions = [0u8; change::DEFINITIONS];
@@ -35,37 +45,45 @@ fn tried(list: &[u8], at: usize, text: &[u8], number: u64, tally: &mut [u64]) ->
         &mut ranges,
         &mut references,
     ) {
-        Outcome::Refused(_) => 0,
+        Outcome::Refused(_) => Ok(0),
         Outcome::Accepted(counts) => {
             lay(&mut reading, 0, &names);
             lay(&mut reading, change::CATEGORIES_AT, &categories);
             lay(&mut reading, change::DEFINITIONS_AT, &definitions);
             lay(&mut reading, change::RANGES_AT, &ranges);
             lay(&mut reading, change::REFERENCES_AT, &references);
-            replay_tables::handed(list, at, counts, &mut reading, number, tally)
+            replay_tables::handed(rt, list, at, counts, &mut reading, number, tally)
         }
     }
 }
 
 // A base asks nothing. All others are read to the end of the line.
-fn asked(list: &[u8], r: Reader, text: &[u8], next: usize, number: u64, tally: &mut [u64]) {
+fn asked(
+    rt: &impl Print,
+    list: &[u8],
+    r: Reader,
+    text: &[u8],
+    next: usize,
+    number: u64,
+    tally: &mut [u64],
+) -> io::Result<()> {
     let at = r.at;
     let size = r.size;
     if replay::byte_at(list, at) == b'b' {
-        return;
+        return Ok(());
     }
     if text.len() < size {
-        tally::differs(tally, list, at, number);
-        return;
+        return tally::differs(rt, tally, list, at, number);
     }
-    let end = tried(list, at, &text[0..size], number, tally);
+    let end = tried(rt, list, at, &text[0..size], number, tally)?;
     if end != next {
-        tally::differs(tally, list, at, number);
+        return tally::differs(rt, tally, list, at, number);
     }
+    Ok(())
 }
 
 // Replays the lines of a half, which so many came before; how many there were then.
-fn replay_all(list: &[u8], before: u64, tally: &mut [u64]) -> u64 {
+fn replay_all(rt: &impl Print, list: &[u8], before: u64, tally: &mut [u64]) -> io::Result<u64> {
     let mut text = [0u8; TEXT_ROOM];
     let mut base = [0u8; BASE_ROOM];
     let mut kept = 0;
@@ -79,26 +97,30 @@ fn replay_all(list: &[u8], before: u64, tally: &mut [u64]) -> u64 {
             let r = replay::items::built(list, at, kept, &mut text, &mut base);
             let next = replay::next_line(list, at);
             kept = r.base;
-            asked(list, r, &text, next, number, tally);
+            asked(rt, list, r, &text, next, number, tally)?;
             at = next;
         }
     }
-    number
+    Ok(number)
 }
 
-fn half_room() -> [u8; HALF] {
-    [0; HALF]
+fn half_room(alloc: Global) -> Result<Vec<u8>, AllocError> {
+    vec![in alloc; 0; HALF]
 }
 
-fn replay_half(before: u64, tally: &mut [u64]) -> u64 {
-    let mut room = half_room();
-    let n = io::read_full(STDIN_FILENO, &mut room);
-    replay_all(&room[..n], before, tally)
+fn replay_half(
+    rt: &(impl Print + Input + AllocGlobal),
+    before: u64,
+    tally: &mut [u64],
+) -> io::Result<u64> {
+    let mut room = half_room(rt.alloc())?;
+    let n = replay::input::read_full(&mut rt.reader(), &mut room)?;
+    replay_all(rt, &room[..n], before, tally)
 }
 
-fn main() {
+fn main(rt: HostRuntime) -> io::Result<()> {
     let mut tally = [0u64; tally::SIZE];
-    let lines = replay_half(0, &mut tally);
-    replay_half(lines, &mut tally);
-    tally::say(&tally);
+    let lines = replay_half(&rt, 0, &mut tally)?;
+    replay_half(&rt, lines, &mut tally)?;
+    tally::say(&rt, &tally)
 }

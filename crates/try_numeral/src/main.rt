@@ -1,7 +1,9 @@
 // Replays oracle/lists/numerals.txt over crate `numeral`: what the Rust reads as a u32 (u), an i32 (i), a bound (h), and of a single
 // code (c). Each text is read twice, at the end of a text that is too short for the ends given, and in front of more digits.
-use libc::{STDIN_FILENO, STDOUT_FILENO};
+#![tactic(auto)]
+
 use numeral::{Bound, Number, Signed};
+use std::io;
 
 // A text of the list has fewer bytes than this, and the list fewer than this.
 const LONGEST: usize = 2048;
@@ -14,7 +16,7 @@ const CODES: u64 = 65536;
 const REFUSED: u64 = 0x1_0000_0000;
 
 // How many lines of each kind agreed so far, and how many lines differed.
-#[derive(Drop)]
+#[derive(Clone, Copy)]
 pub struct Tally {
     pub u: u64,
     pub i: u64,
@@ -118,13 +120,11 @@ fn line(t: Tally, list: &[u8], at: usize) -> Tally {
     noted(t, kind, agrees(list, kind, tag.next))
 }
 
-fn say(kind: &[u8], n: u64, what: &[u8]) {
-    io::write_all(STDOUT_FILENO, kind);
-    io::print_decimal(STDOUT_FILENO, n);
-    io::write_all(STDOUT_FILENO, what);
+fn say(rt: &impl Print, kind: &str, n: u64, what: &str) -> io::Result<()> {
+    println!(rt; "{kind}{n}{what}")
 }
 
-fn replay_all(list: &[u8]) -> Tally {
+fn replay_all(rt: &impl Print, list: &[u8]) -> io::Result<Tally> {
     let mut t = Tally {
         u: 0,
         i: 0,
@@ -142,21 +142,21 @@ fn replay_all(list: &[u8]) -> Tally {
             number = more(number);
             t = line(t, list, at);
             if t.differ != before {
-                say(b"line ", number, b" differs\n");
+                say(rt, "line ", number, " differs")?;
             }
             at = replay::next_line(list, at);
         }
     }
-    t
+    Ok(t)
 }
 
-fn main() {
-    let mut room = [0u8; LIST_ROOM];
-    let n = io::read_full(STDIN_FILENO, &mut room);
-    let t = replay_all(&room[..n]);
-    say(b"u ", t.u, b" agreed\n");
-    say(b"i ", t.i, b" agreed\n");
-    say(b"h ", t.h, b" agreed\n");
-    say(b"c ", t.c, b" agreed\n");
-    say(b"", t.differ, b" differed\n");
+fn main(rt: HostRuntime) -> io::Result<()> {
+    let mut room = vec![in rt.alloc(); 0u8; LIST_ROOM]?;
+    let n = replay::input::read_full(&mut rt.reader(), &mut room)?;
+    let t = replay_all(&rt, &room[..n])?;
+    say(&rt, "u ", t.u, " agreed")?;
+    say(&rt, "i ", t.i, " agreed")?;
+    say(&rt, "h ", t.h, " agreed")?;
+    say(&rt, "c ", t.c, " agreed")?;
+    say(&rt, "", t.differ, " differed")
 }

@@ -1,19 +1,29 @@
 // Replays oracle/lists/packs.txt over the pack's reader: packs written and read by a second hand from the paper's words, each limit and one
 // more, every rule broken at every kind of field, cuts and damage, rooms one byte short. oracle/README.md has the list's form. Every room is
 // lent with bytes behind its size, and all of them are looked at afterwards. What is accepted goes through the pack writer, too.
+#![tactic(auto)]
+
 mod writer;
 
-use libc::STDIN_FILENO;
-use paper::Outcome;
+use paper::{Counts, Outcome};
 use replay::items::Reader;
 use replay::rooms::{CATEGORIES, DEFINITIONS, FILL, NAMES, RANGES, REFERENCES};
 use replay::tally::Tally;
+use std::io;
 
 const LIST_ROOM: usize = 524288;
 
 const TEXT_ROOM: usize = 73728;
 
 const BASE_ROOM: usize = 40960;
+
+// The counts of a pack that is accepted.
+fn counts_of(answer: &Outcome) -> Option<Counts> {
+    match answer {
+        Outcome::Refused(_) => None,
+        Outcome::Accepted(counts) => Some(*counts),
+    }
+}
 
 // The reader's answer and what it leaves in rooms that are filled, and longer than the sizes.
 fn agrees(
@@ -40,15 +50,16 @@ fn agrees(
         &mut ranges[..d],
         &mut references[..e],
     );
+    let accepted = counts_of(&answer);
     if !replay::rooms::answer_agrees(list, at, answer) {
         return false;
     }
     if !replay::rooms::rooms_agree(list, at, names, categories, definitions, ranges, references) {
         return false;
     }
-    match answer {
-        Outcome::Refused(_) => true,
-        Outcome::Accepted(counts) => writer::writes_back(
+    match accepted {
+        None => true,
+        Some(counts) => writer::writes_back(
             names,
             categories,
             definitions,
@@ -88,18 +99,25 @@ fn answered(list: &[u8], r: Reader, pack: &[u8]) -> bool {
 }
 
 // A base asks nothing.
-fn asked(t: Tally, list: &[u8], r: Reader, text: &[u8], number: u64) -> Tally {
+fn asked(
+    rt: &impl Print,
+    t: Tally,
+    list: &[u8],
+    r: Reader,
+    text: &[u8],
+    number: u64,
+) -> io::Result<Tally> {
     let size = r.size;
     if replay::byte_at(list, r.at) == b'b' {
-        return t;
+        return Ok(t);
     }
     if text.len() < size {
-        return replay::tally::noted(t, false, number);
+        return replay::tally::noted(rt, t, false, number);
     }
-    replay::tally::noted(t, answered(list, r, &text[..size]), number)
+    replay::tally::noted(rt, t, answered(list, r, &text[..size]), number)
 }
 
-fn replay_all(list: &[u8]) -> Tally {
+fn replay_all(rt: &impl Print, list: &[u8]) -> io::Result<Tally> {
     let mut text = [0u8; TEXT_ROOM];
     let mut base = [0u8; BASE_ROOM];
     let mut t = Tally {
@@ -116,15 +134,16 @@ fn replay_all(list: &[u8]) -> Tally {
             number = std::num::wrapping_add_u64(number, 1);
             let r = replay::items::built(list, at, kept, &mut text, &mut base);
             kept = r.base;
-            t = asked(t, list, r, &text, number);
+            t = asked(rt, t, list, r, &text, number)?;
             at = replay::next_line(list, at);
         }
     }
-    t
+    Ok(t)
 }
 
-fn main() {
-    let mut room = [0u8; LIST_ROOM];
-    let n = io::read_full(STDIN_FILENO, &mut room);
-    replay::tally::say(replay_all(&room[..n]));
+fn main(rt: HostRuntime) -> io::Result<()> {
+    let mut room = vec![in rt.alloc(); 0u8; LIST_ROOM]?;
+    let n = replay::input::read_full(&mut rt.reader(), &mut room)?;
+    let t = replay_all(&rt, &room[..n])?;
+    replay::tally::say(&rt, t)
 }

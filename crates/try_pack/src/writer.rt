@@ -1,6 +1,6 @@
 // The pack writer over the tables that the reader left: the same bytes must come back, into a room that is long enough, with nothing written
 // behind them; and over tables that a line damages, which hold together and are some other pack, or are refused.
-ghost use Rattle.io.specs.Counts.{IsPrefixLen as CountsIn};
+ghost use Rattle.replay.specs.Counts.{IsPrefixLen as CountsIn};
 
 use packer::Written;
 use paper::{Counts, MAX_PACK_BYTES, Outcome, PACK_ROOM_SHORT, TABLES_APART};
@@ -219,7 +219,7 @@ fn refuses<'a>(
 // ---- tables as a line hands them in
 
 // Where the list is read, the counts, which table is lent short (5: none) and how long it is then, and whether the changes end here.
-#[derive(Drop)]
+#[derive(Clone, Copy)]
 pub struct Handed {
     pub at: usize,
     pub counts: Counts,

@@ -1,6 +1,8 @@
 // Replays the lists of oracle/lists over crate `text`: RFC 3629's examples and damaged texts (t), every first and second byte with
 // each kind of tail (b2, b3, c3, b4, c4), characters at the edges with their scalar values (v), and White_Space over all of Unicode (w, e).
-use libc::{STDIN_FILENO, STDOUT_FILENO};
+#![tactic(auto)]
+
+use std::io;
 use text::Next;
 
 // A text of the list has fewer bytes than this.
@@ -11,7 +13,7 @@ const TAIL: u8 = 0x80;
 const NO_TAIL: u8 = 0x41;
 
 // How many cases agreed and differed so far, and the first code point whose White_Space was not asked yet.
-#[derive(Drop)]
+#[derive(Clone, Copy)]
 pub struct Tally {
     pub agreed: u64,
     pub differ: u64,
@@ -153,13 +155,11 @@ fn line(t: Tally, list: &[u8], at: usize) -> Tally {
     run_line(t, list, at)
 }
 
-fn say_difference(number: u64) {
-    io::write_all(STDOUT_FILENO, b"line ");
-    io::print_decimal(STDOUT_FILENO, number);
-    io::write_all(STDOUT_FILENO, b" differs\n");
+fn say_difference(rt: &impl Print, number: u64) -> io::Result<()> {
+    println!(rt; "line {number} differs")
 }
 
-fn replay_all(list: &[u8]) -> Tally {
+fn replay_all(rt: &impl Print, list: &[u8]) -> io::Result<Tally> {
     let mut t = Tally {
         agreed: 0,
         differ: 0,
@@ -175,20 +175,17 @@ fn replay_all(list: &[u8]) -> Tally {
             number = std::num::wrapping_add_u64(number, 1);
             t = line(t, list, at);
             if t.differ != before {
-                say_difference(number);
+                say_difference(rt, number)?;
             }
             at = replay::next_line(list, at);
         }
     }
-    t
+    Ok(t)
 }
 
-fn main() {
-    let mut room = [0u8; 131072];
-    let n = io::read_full(STDIN_FILENO, &mut room);
-    let t = replay_all(&room[..n]);
-    io::print_decimal(STDOUT_FILENO, t.agreed);
-    io::write_all(STDOUT_FILENO, b" agreed, ");
-    io::print_decimal(STDOUT_FILENO, t.differ);
-    io::write_all(STDOUT_FILENO, b" differed\n");
+fn main(rt: HostRuntime) -> io::Result<()> {
+    let mut room = vec![in rt.alloc(); 0u8; 131072]?;
+    let n = replay::input::read_full(&mut rt.reader(), &mut room)?;
+    let t = replay_all(&rt, &room[..n])?;
+    println!(rt; "{} agreed, {} differed", t.agreed, t.differ)
 }

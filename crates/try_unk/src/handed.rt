@@ -1,5 +1,5 @@
 // The reading's tables that the reader is handed: as `char_def::parse` leaves them, and then as the items `m`, `k` and `s` of a line change them.
-ghost use Rattle.io.specs.Counts.{IsPrefixLen as CountsIn};
+ghost use Rattle.replay.specs.Counts.{IsPrefixLen as CountsIn};
 
 use paper::{
     Counts, MAX_CATEGORIES, MAX_CATEGORY_LINES, MAX_NAME_BYTES, MAX_RANGES, MAX_REFERENCES,
@@ -24,7 +24,7 @@ pub const REFERENCES: usize = MAX_REFERENCES * 2 + SPARE;
 const HALF: u64 = 0x1_0000_0000;
 
 // Where the list is read, the counts, how many bytes of each table are handed in, and whether the changes ended here.
-#[derive(Drop)]
+#[derive(Clone, Copy)]
 pub struct Handed {
     pub at: usize,
     pub counts: Counts,

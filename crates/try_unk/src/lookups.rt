@@ -8,7 +8,7 @@ use word::{SpanFound, WordFound};
 const BYTE: u16 = 256;
 
 // Where the list is read, how many bytes of each table are lent, and whether all agreed up to here.
-#[derive(Drop)]
+#[derive(Clone, Copy)]
 pub struct Lookups {
     pub at: usize,
     pub entries: usize,

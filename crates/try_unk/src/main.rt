@@ -1,16 +1,18 @@
 // Replays oracle/lists/unk.txt over the reader of unk.def and its lookups: the Rust's entries, references, offsets and details, the paper's limits,
 // rooms one byte short, and tables handed in that don't hold together. oracle/README.md has the list's form.
+#![tactic(auto)]
+
 mod handed;
 mod left;
 mod lookups;
 
 use handed::Handed;
 use left::{DETAILS, ENTRIES, MEMBERS, OFFSETS, PLACES};
-use libc::STDIN_FILENO;
 use paper::{Counts, Outcome};
 use replay::items::Reader;
 use replay::rooms::FILL;
 use replay::tally::Tally;
+use std::io;
 use unk::UnkOutcome;
 
 const LIST_ROOM: usize = 524288;
@@ -18,6 +20,14 @@ const LIST_ROOM: usize = 524288;
 const TEXT_ROOM: usize = 73728;
 
 const BASE_ROOM: usize = 4096;
+
+// How many entries a text that is accepted has.
+fn entries_of(answer: &UnkOutcome) -> Option<usize> {
+    match answer {
+        UnkOutcome::Refused(_) => None,
+        UnkOutcome::Accepted(c) => Some(c.entries),
+    }
+}
 
 // The answer, what the reader leaves in the rooms, and what lookups find there where the text is accepted.
 fn left_agrees(
@@ -31,19 +41,20 @@ fn left_agrees(
     places: &[u8],
     members: &[u8],
 ) -> bool {
+    let accepted = entries_of(&answer);
     if !left::answer_agrees(list, at, answer) {
         return false;
     }
     if !left::rooms_agree(list, at, entries, offsets, details, places, members) {
         return false;
     }
-    match answer {
-        UnkOutcome::Refused(_) => true,
-        UnkOutcome::Accepted(c) => lookups::agree(
+    match accepted {
+        None => true,
+        Some(count) => lookups::agree(
             list,
             left::behind_answer(list, at),
             categories,
-            c.entries,
+            count,
             entries,
             offsets,
             details,
@@ -207,12 +218,25 @@ fn tried(list: &[u8], at: usize, text: &[u8], short: usize, char_def: &[u8]) -> 
 }
 
 // What a line's text is for: a base and a char.def ask nothing.
-fn asked(t: Tally, list: &[u8], r: Reader, text: &[u8], char_def: &[u8], number: u64) -> Tally {
+fn asked(
+    rt: &impl Print,
+    t: Tally,
+    list: &[u8],
+    r: Reader,
+    text: &[u8],
+    char_def: &[u8],
+    number: u64,
+) -> io::Result<Tally> {
     let n = handed::least(text, r.size);
     match replay::byte_at(list, r.at) {
-        b'b' => t,
-        b'c' => t,
-        _ => replay::tally::noted(t, tried(list, r.at, &text[..n], r.short, char_def), number),
+        b'b' => Ok(t),
+        b'c' => Ok(t),
+        _ => replay::tally::noted(
+            rt,
+            t,
+            tried(list, r.at, &text[..n], r.short, char_def),
+            number,
+        ),
     }
 }
 
@@ -224,7 +248,7 @@ fn kept_char_def(list: &[u8], r: Reader, text: &[u8], char_def: &mut [u8], size:
     replay::items::keep(text, r.size, char_def)
 }
 
-fn replay_all(list: &[u8]) -> Tally {
+fn replay_all(rt: &impl Print, list: &[u8]) -> io::Result<Tally> {
     let mut text = [0u8; TEXT_ROOM];
     let mut base = [0u8; BASE_ROOM];
     let mut char_def = [0u8; TEXT_ROOM];
@@ -245,15 +269,16 @@ fn replay_all(list: &[u8]) -> Tally {
             kept = r.base;
             size = kept_char_def(list, r, &text, &mut char_def, size);
             let n = handed::least(&char_def, size);
-            t = asked(t, list, r, &text, &char_def[..n], number);
+            t = asked(rt, t, list, r, &text, &char_def[..n], number)?;
             at = replay::next_line(list, at);
         }
     }
-    t
+    Ok(t)
 }
 
-fn main() {
-    let mut room = [0u8; LIST_ROOM];
-    let n = io::read_full(STDIN_FILENO, &mut room);
-    replay::tally::say(replay_all(&room[..n]));
+fn main(rt: HostRuntime) -> io::Result<()> {
+    let mut room = vec![in rt.alloc(); 0u8; LIST_ROOM]?;
+    let n = replay::input::read_full(&mut rt.reader(), &mut room)?;
+    let t = replay_all(&rt, &room[..n])?;
+    replay::tally::say(&rt, t)
 }

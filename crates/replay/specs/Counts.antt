@@ -1,0 +1,6 @@
+-- How many places of a room count.
+use Rattle.std.specs.Prelude.{◌≡◌, ℕ, ◌≤◌, List, length, take}
+
+-- `&xs[..n]` is in bounds and has n numbers.
+abbrev pub IsPrefixLen : ℕ → List ℕ → Type 0
+IsPrefixLen n xs = (n ≤ length xs) × (n ≡ length (take n xs))
