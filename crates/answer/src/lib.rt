@@ -1,10 +1,16 @@
 // What each command writes of a dictionary.
+#![tactic(auto)]
+
 use command::Asked;
 use paper::Counts;
-use say::Report;
+use say::{ErrorStream, Report};
+use std::env::Env;
+use std::fs::Files;
+use std::io::{Input, Print};
 
 // The tables in lines, but for `at`, which asks for code points alone.
 fn put_tables(
+    rt: &impl Print,
     asked: Asked,
     out: &mut [u8],
     names: &[u8],
@@ -18,13 +24,14 @@ fn put_tables(
     if asked.command == command::AT {
         return r;
     }
-    let one = show::show_categories(r, out, names, categories, c.categories);
-    let two = show::show_definitions(one, out, definitions, c.definitions);
-    show::show_ranges(two, out, ranges, references, c.ranges)
+    let one = show::show_categories(rt, r, out, names, categories, c.categories);
+    let two = show::show_definitions(rt, one, out, definitions, c.definitions);
+    show::show_ranges(rt, two, out, ranges, references, c.ranges)
 }
 
 // The dictionary in lines: its tables, and what its rows give.
-fn describe<'a>(
+fn describe<'a, R: Env + Print>(
+    rt: &R,
     asked: Asked,
     out: &mut [u8],
     names: &'a [u8],
@@ -35,6 +42,7 @@ fn describe<'a>(
     c: Counts,
 ) -> Report {
     let r = put_tables(
+        rt,
         asked,
         out,
         names,
@@ -45,6 +53,7 @@ fn describe<'a>(
         c,
     );
     by_row::put_rows(
+        rt,
         asked,
         r,
         out,
@@ -57,7 +66,8 @@ fn describe<'a>(
     )
 }
 
-fn answer_in_lines<'a>(
+fn answer_in_lines<'a, R: Env + ErrorStream + Files + Input + Print>(
+    rt: &R,
     asked: Asked,
     out: &mut [u8],
     names: &'a [u8],
@@ -70,6 +80,7 @@ fn answer_in_lines<'a>(
     let command = asked.command;
     match command {
         command::UNK => show_unk::put_unk(
+            rt,
             asked,
             out,
             names,
@@ -80,6 +91,7 @@ fn answer_in_lines<'a>(
             c,
         ),
         _ => describe(
+            rt,
             asked,
             out,
             names,
@@ -93,7 +105,8 @@ fn answer_in_lines<'a>(
 }
 
 // What a command asks of a dictionary that a reader accepted.
-pub fn answer<'a>(
+pub fn answer<'a, R: Env + ErrorStream + Files + Input + Print>(
+    rt: &R,
     asked: Asked,
     out: &mut [u8],
     names: &'a [u8],
@@ -105,8 +118,14 @@ pub fn answer<'a>(
 ) -> Report {
     let command = asked.command;
     match command {
-        command::CHECK => show::put_counts(Report::new().argument(out, asked.first), out, c),
+        command::CHECK => show::put_counts(
+            rt,
+            Report::new().argument(rt, out, asked.first),
+            out,
+            c,
+        ),
         command::PACK => save::save_pack(
+            rt,
             asked,
             out,
             names,
@@ -117,6 +136,7 @@ pub fn answer<'a>(
             c,
         ),
         _ => answer_in_lines(
+            rt,
             asked,
             out,
             names,

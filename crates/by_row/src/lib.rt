@@ -1,14 +1,19 @@
 // A dictionary's rows, built for what is asked: lines of them all, or the categories of code points.
-ghost use Rattle.io.specs.Counts.{IsPrefixLen as CountsIn};
+#![tactic(auto)]
+
+ghost use Rattle.std.specs.Prelude.{◌≡◌, ◌≤◌, length, take};
 
 use command::Asked;
 use paper::Counts;
 use row::Built;
 use say::Report;
+use std::env::Env;
+use std::io::Print;
 
 // As many of the boundaries as there are rows.
 fn least(boundaries: &[u32], n: usize) -> usize
-    ensures { CountsIn result boundaries.now }
+    ensures within { result ≤ length boundaries.now }
+    ensures front { result ≡ length (take result boundaries.now) }
 {
     if boundaries.len() < n {
         return boundaries.len();
@@ -22,7 +27,8 @@ fn empty_pool() -> [u16; paper::MAX_ROW_PLACES] {
 }
 
 // What `show` or `at` writes of the rows.
-fn put_built(
+fn put_built<R: Env + Print>(
+    rt: &R,
     asked: Asked,
     r: Report,
     out: &mut [u8],
@@ -34,16 +40,17 @@ fn put_built(
     pool: &[u16],
 ) -> Report {
     if asked.command != command::AT {
-        return show_row::show_rows(r, out, boundaries, starts, lengths, pool);
+        return show_row::show_rows(rt, r, out, boundaries, starts, lengths, pool);
     }
     let first = std::num::wrapping_add_usize(asked.first, 1);
     show_row::show_codes(
-        r, out, first, asked.end, names, categories, boundaries, starts, lengths, pool,
+        rt, r, out, first, asked.end, names, categories, boundaries, starts, lengths, pool,
     )
 }
 
 // Room for every row that a dictionary can have: 17 is never given.
-pub fn put_rows<'a>(
+pub fn put_rows<'a, R: Env + Print>(
+    rt: &R,
     asked: Asked,
     r: Report,
     out: &mut [u8],
@@ -70,10 +77,11 @@ pub fn put_rows<'a>(
         &mut lengths,
         &mut pool,
     ) {
-        Built::Refused(x) => refusal::put_refusal(r, out, asked.first, &names[0..0], x),
+        Built::Refused(x) => refusal::put_refusal(rt, r, out, asked.first, &names[0..0], x),
         Built::Rows(n) => {
             let rows = least(&boundaries, n.rows);
             put_built(
+                rt,
                 asked,
                 r,
                 out,

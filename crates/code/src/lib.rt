@@ -1,4 +1,7 @@
 // A code point as people write it: hex digits, behind U+ or 0x or by themselves.
+#![tactic(auto)]
+
+use std::env::Env;
 
 // Above every code point: what all larger numbers are taken as.
 const BEYOND: u32 = 0x110000;
@@ -54,12 +57,12 @@ fn code_of(word: &[u8]) -> u32 {
     code
 }
 
-pub fn code_at(i: usize) -> u32 {
-    let mut word = io::buffer();
-    let n = os::arg(i, &mut word);
+pub fn code_at(rt: &impl Env, i: usize) -> u32 {
+    let mut word = say::word();
+    let n = say::argument(rt, i, &mut word);
     code_of(&word[..n])
 }
 
-pub fn is_code(i: usize) -> bool {
-    code_at(i) != NO_CODE
+pub fn is_code(rt: &impl Env, i: usize) -> bool {
+    code_at(rt, i) != NO_CODE
 }

@@ -1,5 +1,9 @@
 // The commands: a line of help for each, how many words stand behind it, and what is said where one cannot be obeyed.
-use say::{Report, complain};
+#![tactic(auto)]
+
+use say::{ErrorStream, Report, complain};
+use std::env::{Env, FillError};
+use std::io::Print;
 
 pub const CHECK: usize = 0;
 
@@ -32,7 +36,7 @@ const COMMAND_LINES: [[u8; USAGE]; COMMANDS] = [
 ];
 
 // What is asked: the command, the place of the first argument behind it, and how many arguments there are in all.
-#[derive(Drop)]
+#[derive(Clone, Copy)]
 pub struct Asked {
     pub command: usize,
     pub first: usize,
@@ -46,18 +50,18 @@ fn command_line(command: usize) -> [u8; USAGE] {
     [b' '; USAGE]
 }
 
-fn put_command_line(r: Report, room: &mut [u8], command: usize) -> Report {
+fn put_command_line(rt: &impl Print, r: Report, room: &mut [u8], command: usize) -> Report {
     let line = command_line(command);
-    r.bytes(room, b"  ./twinebeetle ")
-        .line(room, &line)
-        .bytes(room, b"\n")
+    r.bytes(rt, room, b"  ./twinebeetle ")
+        .line(rt, room, &line)
+        .bytes(rt, room, b"\n")
 }
 
-pub fn help(r: Report, out: &mut [u8]) -> Report {
+pub fn help(rt: &impl Print, r: Report, out: &mut [u8]) -> Report {
     let mut next = r;
     let mut command = 0;
     while command < COMMANDS {
-        next = put_command_line(next, out, command);
+        next = put_command_line(rt, next, out, command);
         command += 1;
     }
     next
@@ -79,9 +83,9 @@ pub fn same(a: &[u8], b: &[u8]) -> bool {
     true
 }
 
-pub fn is_argument(i: usize, word: &[u8]) -> bool {
-    let mut given = io::buffer();
-    let n = os::arg(i, &mut given);
+pub fn is_argument(rt: &impl Env, i: usize, word: &[u8]) -> bool {
+    let mut given = say::word();
+    let n = say::argument(rt, i, &mut given);
     same(&given[..n], word)
 }
 
@@ -113,16 +117,26 @@ fn command_of(word: &[u8]) -> usize {
     command
 }
 
-fn command_at(i: usize) -> usize {
-    let mut word = io::buffer();
-    let n = os::arg(i, &mut word);
+fn command_at(rt: &impl Env, i: usize) -> usize {
+    let mut word = say::word();
+    let n = say::argument(rt, i, &mut word);
     command_of(&word[..n])
 }
 
+// How many arguments there are, the program's own name among them.
+fn arguments_in_all(rt: &impl Env) -> usize {
+    for i in 0..usize::MAX {
+        if matches!(rt.arg(i, &mut []), Err(FillError::NotPresent)) {
+            return i;
+        }
+    }
+    usize::MAX
+}
+
 // The command that stands at a place, with no argument: help.
-pub fn asked_at(i: usize) -> Asked {
-    let end = os::arg_count();
-    let command = if end <= i { HELP } else { command_at(i) };
+pub fn asked_at(rt: &impl Env, i: usize) -> Asked {
+    let end = arguments_in_all(rt);
+    let command = if end <= i { HELP } else { command_at(rt, i) };
     Asked {
         command,
         first: std::num::wrapping_add_usize(i, 1),
@@ -132,20 +146,20 @@ pub fn asked_at(i: usize) -> Asked {
 
 // ---- what cannot be obeyed
 
-fn complain_of_unknown(i: usize) {
-    complain(b"twinebeetle: there is no command ");
-    say::complain_of(i);
-    complain(b"; see ./twinebeetle help\n");
+fn complain_of_unknown<R: Env + ErrorStream>(rt: &R, i: usize) {
+    complain(rt, b"twinebeetle: there is no command ");
+    say::complain_of(rt, i);
+    complain(rt, b"; see ./twinebeetle help\n");
 }
 
-fn complain_of_usage(what: &[u8], command: usize) {
+fn complain_of_usage(rt: &impl ErrorStream, what: &[u8], command: usize) {
     let line = command_line(command);
     let n = say::trimmed(&line);
-    complain(b"twinebeetle: ");
-    complain(what);
-    complain(b": ./twinebeetle ");
-    complain(&line[..n]);
-    complain(b"\n");
+    complain(rt, b"twinebeetle: ");
+    complain(rt, what);
+    complain(rt, b": ./twinebeetle ");
+    complain(rt, &line[..n]);
+    complain(rt, b"\n");
 }
 
 // How many arguments a command has behind it; `at` takes more.
@@ -157,10 +171,10 @@ fn arguments(command: usize) -> usize {
     }
 }
 
-fn has_arguments(command: usize, given: usize) -> bool {
+fn has_arguments(rt: &impl ErrorStream, command: usize, given: usize) -> bool {
     let wanted = arguments(command);
     if given < wanted {
-        complain_of_usage(b"an argument is missing", command);
+        complain_of_usage(rt, b"an argument is missing", command);
         return false;
     }
     if given == wanted {
@@ -169,22 +183,25 @@ fn has_arguments(command: usize, given: usize) -> bool {
     if command == AT {
         return true;
     }
-    complain_of_usage(b"there is an argument too many", command);
+    complain_of_usage(rt, b"there is an argument too many", command);
     false
 }
 
-fn complain_of_code(i: usize) {
-    complain(b"twinebeetle: ");
-    say::complain_of(i);
-    complain(b" is no code point: write hex digits, as 3042 or U+3042\n");
+fn complain_of_code<R: Env + ErrorStream>(rt: &R, i: usize) {
+    complain(rt, b"twinebeetle: ");
+    say::complain_of(rt, i);
+    complain(
+        rt,
+        b" is no code point: write hex digits, as 3042 or U+3042\n",
+    );
 }
 
 // The arguments of `at` from the second on are codes.
-fn are_codes(a: Asked) -> bool {
+fn are_codes<R: Env + ErrorStream>(rt: &R, a: Asked) -> bool {
     let mut i = std::num::wrapping_add_usize(a.first, 1);
     while i < a.end {
-        if !code::is_code(i) {
-            complain_of_code(i);
+        if !code::is_code(rt, i) {
+            complain_of_code(rt, i);
             return false;
         }
         i += 1;
@@ -192,63 +209,66 @@ fn are_codes(a: Asked) -> bool {
     true
 }
 
-fn are_both(a: Asked, word: &[u8]) -> bool {
-    if !is_argument(a.first, word) {
+fn are_both(rt: &impl Env, a: Asked, word: &[u8]) -> bool {
+    if !is_argument(rt, a.first, word) {
         return false;
     }
-    is_argument(std::num::wrapping_add_usize(a.first, 1), word)
+    is_argument(rt, std::num::wrapping_add_usize(a.first, 1), word)
 }
 
 // Standard input ends once.
-fn is_read_once(a: Asked) -> bool {
-    if are_both(a, b"-") {
-        complain(b"twinebeetle: standard input can be only one of the two files\n");
+fn is_read_once<R: Env + ErrorStream>(rt: &R, a: Asked) -> bool {
+    if are_both(rt, a, b"-") {
+        complain(
+            rt,
+            b"twinebeetle: standard input can be only one of the two files\n",
+        );
         return false;
     }
     true
 }
 
-fn is_same_argument(i: usize, k: usize) -> bool {
-    let mut word = io::buffer();
-    let n = os::arg(i, &mut word);
-    is_argument(k, &word[..n])
+fn is_same_argument(rt: &impl Env, i: usize, k: usize) -> bool {
+    let mut word = say::word();
+    let n = say::argument(rt, i, &mut word);
+    is_argument(rt, k, &word[..n])
 }
 
 // A pack does not take its text's place; from standard input to standard output it may go.
-fn is_elsewhere(a: Asked) -> bool {
-    if are_both(a, b"-") {
+fn is_elsewhere<R: Env + ErrorStream>(rt: &R, a: Asked) -> bool {
+    if are_both(rt, a, b"-") {
         return true;
     }
-    if is_same_argument(a.first, std::num::wrapping_add_usize(a.first, 1)) {
-        complain(b"twinebeetle: ");
-        say::complain_of(a.first);
-        complain(b" would be written over itself\n");
+    if is_same_argument(rt, a.first, std::num::wrapping_add_usize(a.first, 1)) {
+        complain(rt, b"twinebeetle: ");
+        say::complain_of(rt, a.first);
+        complain(rt, b" would be written over itself\n");
         return false;
     }
     true
 }
 
-fn are_right(a: Asked) -> bool {
+fn are_right<R: Env + ErrorStream>(rt: &R, a: Asked) -> bool {
     let command = a.command;
     match command {
-        AT => are_codes(a),
-        PACK => is_elsewhere(a),
-        UNK => is_read_once(a),
+        AT => are_codes(rt, a),
+        PACK => is_elsewhere(rt, a),
+        UNK => is_read_once(rt, a),
         _ => true,
     }
 }
 
 // Whether what is asked can be obeyed; if not, that is said. Without any argument nothing stands behind the command either.
-pub fn is_well_asked(a: Asked) -> bool {
+pub fn is_well_asked<R: Env + ErrorStream>(rt: &R, a: Asked) -> bool {
     if a.command == COMMANDS {
-        complain_of_unknown(std::num::wrapping_sub_usize(a.first, 1));
+        complain_of_unknown(rt, std::num::wrapping_sub_usize(a.first, 1));
         return false;
     }
     if a.end < a.first {
         return true;
     }
-    if !has_arguments(a.command, std::num::wrapping_sub_usize(a.end, a.first)) {
+    if !has_arguments(rt, a.command, std::num::wrapping_sub_usize(a.end, a.first)) {
         return false;
     }
-    are_right(a)
+    are_right(rt, a)
 }

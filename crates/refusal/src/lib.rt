@@ -1,6 +1,10 @@
 // A refusal in words: the file, the place, the number and what it means; and where the place is a line, the line itself.
+#![tactic(auto)]
+
 use paper::Refusal;
 use say::Report;
+use std::env::Env;
+use std::io::Print;
 
 const LF: u8 = b'\n';
 
@@ -37,7 +41,7 @@ const MEANINGS: [[u8; SENTENCE]; 26] = [
 ];
 
 // What the place of a refusal counts, by its number.
-#[derive(Drop)]
+#[derive(Clone, Copy)]
 pub enum Place {
     Line(usize),
     Byte(usize),
@@ -56,9 +60,9 @@ fn meaning(number: u32) -> [u8; SENTENCE] {
     MEANINGS[from_one - 1]
 }
 
-fn put_meaning(r: Report, room: &mut [u8], number: u32) -> Report {
+fn put_meaning(rt: &impl Print, r: Report, room: &mut [u8], number: u32) -> Report {
     let line = meaning(number);
-    r.line(room, &line)
+    r.line(rt, room, &line)
 }
 
 fn place_of(x: Refusal) -> Place {
@@ -103,55 +107,63 @@ fn line_start(text: &[u8], line: usize) -> usize {
     i
 }
 
-fn put_line(r: Report, room: &mut [u8], text: &[u8], line: usize) -> Report {
+fn put_line(rt: &impl Print, r: Report, room: &mut [u8], text: &[u8], line: usize) -> Report {
     let mut next = r;
     let mut i = line_start(text, line);
     while i < text.len() {
         if text[i] == LF {
-            return next.byte(room, LF);
+            return next.byte(rt, room, LF);
         }
-        next = next.byte(room, text[i]);
+        next = next.byte(rt, room, text[i]);
         i += 1;
     }
-    next.byte(room, LF)
+    next.byte(rt, room, LF)
 }
 
-fn put_number(r: Report, room: &mut [u8], before: &[u8], n: usize) -> Report {
-    r.bytes(room, before).decimal(room, n as u64)
+fn put_number(rt: &impl Print, r: Report, room: &mut [u8], before: &[u8], n: usize) -> Report {
+    r.bytes(rt, room, before).decimal(rt, room, n as u64)
 }
 
 // An editor needs the line of a bad byte too.
-fn put_place(r: Report, room: &mut [u8], text: &[u8], place: Place) -> Report {
+fn put_place(rt: &impl Print, r: Report, room: &mut [u8], text: &[u8], place: Place) -> Report {
     match place {
-        Place::Line(n) => put_number(r, room, b":", n),
+        Place::Line(n) => put_number(rt, r, room, b":", n),
         Place::Byte(n) => {
             let line = line_at(text, n);
-            put_number(put_number(r, room, b":", line), room, b": byte ", n)
+            put_number(rt, put_number(rt, r, room, b":", line), room, b": byte ", n)
         }
-        Place::Bit(n) => put_number(r, room, b": bit ", n),
+        Place::Bit(n) => put_number(rt, r, room, b": bit ", n),
         Place::Nowhere => r,
     }
 }
 
-fn put_bad_line(r: Report, room: &mut [u8], text: &[u8], place: Place) -> Report {
+fn put_bad_line(rt: &impl Print, r: Report, room: &mut [u8], text: &[u8], place: Place) -> Report {
     match place {
-        Place::Line(n) => put_line(r, room, text, n),
-        Place::Byte(n) => put_line(r, room, text, line_at(text, n)),
+        Place::Line(n) => put_line(rt, r, room, text, n),
+        Place::Byte(n) => put_line(rt, r, room, text, line_at(text, n)),
         Place::Bit(_) => r,
         Place::Nowhere => r,
     }
 }
 
 // The number and what it means.
-fn put_number_and_meaning(r: Report, room: &mut [u8], number: u32) -> Report {
-    let numbered = put_number(r, room, b": refused ", number as usize).bytes(room, b": ");
-    put_meaning(numbered, room, number).byte(room, LF)
+fn put_number_and_meaning(rt: &impl Print, r: Report, room: &mut [u8], number: u32) -> Report {
+    let numbered = put_number(rt, r, room, b": refused ", number as usize).bytes(rt, room, b": ");
+    put_meaning(rt, numbered, room, number).byte(rt, room, LF)
 }
 
 // What is refused is named by argument i.
-pub fn put_refusal(r: Report, room: &mut [u8], i: usize, text: &[u8], x: Refusal) -> Report {
+pub fn put_refusal<R: Env + Print>(
+    rt: &R,
+    r: Report,
+    room: &mut [u8],
+    i: usize,
+    text: &[u8],
+    x: Refusal,
+) -> Report {
+    let number = x.number;
     let place = place_of(x);
-    let placed = put_place(r.argument(room, i), room, text, place);
-    let said = put_number_and_meaning(placed, room, x.number);
-    put_bad_line(said.refuse(), room, text, place)
+    let placed = put_place(rt, r.argument(rt, room, i), room, text, place);
+    let said = put_number_and_meaning(rt, placed, room, number);
+    put_bad_line(rt, said.refuse(), room, text, place)
 }

@@ -1,27 +1,38 @@
 // The pack of a dictionary, written to the file that the second argument names.
+#![tactic(auto)]
+
 use command::Asked;
 use packer::Written;
 use paper::Counts;
-use say::Report;
+use say::{ErrorStream, Report};
+use std::env::Env;
+use std::fs::Files;
+use std::io::Print;
 
 // Behind - it goes to standard output, and nothing is said.
-fn put_pack(asked: Asked, out: &mut [u8], pack: &[u8]) -> Report {
+fn put_pack<R: Env + ErrorStream + Files + Print>(
+    rt: &R,
+    asked: Asked,
+    out: &mut [u8],
+    pack: &[u8],
+) -> Report {
     let to = std::num::wrapping_add_usize(asked.first, 1);
     let r = Report::new();
-    if command::is_argument(to, b"-") {
-        return r.bytes(out, pack);
+    if command::is_argument(rt, to, b"-") {
+        return r.bytes(rt, out, pack);
     }
-    if !file::write_file(to, pack) {
+    if !file::write_file(rt, to, pack) {
         return r.refuse();
     }
-    r.argument(out, to)
-        .bytes(out, b": packed: ")
-        .decimal(out, pack.len() as u64)
-        .bytes(out, b" bytes\n")
+    r.argument(rt, out, to)
+        .bytes(rt, out, b": packed: ")
+        .decimal(rt, out, pack.len() as u64)
+        .bytes(rt, out, b" bytes\n")
 }
 
 // Room for every pack: 22 is never given.
-pub fn save_pack<'a>(
+pub fn save_pack<'a, R: Env + ErrorStream + Files + Print>(
+    rt: &R,
     asked: Asked,
     out: &mut [u8],
     names: &'a [u8],
@@ -42,11 +53,11 @@ pub fn save_pack<'a>(
         &mut pack,
     ) {
         Written::Refused(x) => {
-            refusal::put_refusal(Report::new(), out, asked.first, &names[0..0], x)
+            refusal::put_refusal(rt, Report::new(), out, asked.first, &names[0..0], x)
         }
         Written::Length(n) => {
             let size = file::least(&pack, n);
-            put_pack(asked, out, &pack[..size])
+            put_pack(rt, asked, out, &pack[..size])
         }
     }
 }

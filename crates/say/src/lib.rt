@@ -1,18 +1,40 @@
 // What the program says. Bytes wait in a lent room, and go to standard output when it is full and at the end. What cannot be obeyed is said in one
 // sentence on standard error.
-ghost use Rattle.io.specs.Counts.{IsPrefixLen as CountsIn};
+#![tactic(auto)]
 
-use libc::{STDERR_FILENO, STDOUT_FILENO};
+ghost use Rattle.std.specs.Prelude.{◌≡◌, ◌≤◌, length, take};
+
+use std::env::Env;
+use std::fmt::InlineText;
+use std::io;
+use std::io::Print;
 
 // Code points are written with at least so many digits.
 const HEX_WIDTH: usize = 4;
 
-// How many bytes wait, whether standard output stopped taking them, and whether something was refused or could not be read.
+// No argument that is read is longer; a path is shorter.
+pub const WORD_SIZE: usize = 4096;
+
+// Room for what is said of an error.
+const REASON_SIZE: usize = 128;
+
+// How many bytes wait, why standard output stopped taking them where it did, and whether something was refused or could not be read.
 #[derive(Drop)]
 pub struct Report {
     pub waiting: usize,
-    pub lost: bool,
+    pub lost: Option<io::Error>,
     pub refused: bool,
+}
+
+// Standard error: it takes bytes that need not be text, and what it does not take is let go.
+pub trait ErrorStream {
+    fn complain(&self, s: &[u8]);
+}
+
+impl ErrorStream for HostRuntime {
+    fn complain(&self, s: &[u8]) {
+        let _ = self.stderr().write_all(s);
+    }
 }
 
 fn upper(b: u8) -> u8 {
@@ -26,7 +48,8 @@ fn is_spelled(b: u8) -> bool {
 
 // How long a line of a table is without the spaces that fill it up.
 pub fn trimmed(line: &[u8]) -> usize
-    ensures { CountsIn result line.now }
+    ensures within { result ≤ length line.now }
+    ensures front { result ≡ length (take result line.now) }
 {
     let mut n = line.len();
     while 0 < n {
@@ -38,23 +61,53 @@ pub fn trimmed(line: &[u8]) -> usize
     n
 }
 
+// Room for an argument.
+pub fn word() -> [u8; WORD_SIZE] {
+    [0; WORD_SIZE]
+}
+
+// Argument i, at the start of the word, and its length; 0 where it is missing or longer than the word.
+pub fn argument(rt: &impl Env, i: usize, word: &mut [u8]) -> usize
+    ensures within { result ≤ length word.new }
+    ensures front { result ≡ length (take result word.new) }
+{
+    rt.arg(i, word).unwrap_or(0)
+}
+
 // A part of a sentence on standard error.
-pub fn complain(s: &[u8]) {
-    io::write_all(STDERR_FILENO, s);
+pub fn complain(rt: &impl ErrorStream, s: &[u8]) {
+    rt.complain(s);
 }
 
 // Argument i there.
-pub fn complain_of(i: usize) {
-    let mut word = io::buffer();
-    let n = os::arg(i, &mut word);
-    complain(&word[..n]);
+pub fn complain_of<R: ErrorStream + Env>(rt: &R, i: usize) {
+    let mut word = word();
+    let n = argument(rt, i, &mut word);
+    complain(rt, &word[..n]);
+}
+
+// An error in words, without its number, which std sets behind them.
+fn reason(text: &str) -> &str {
+    match text.split_once(" (os error ") {
+        Some((words, _)) => words,
+        None => text,
+    }
+}
+
+// A line on standard error: what failed, as the caller names it, and why.
+pub fn fail(rt: &impl ErrorStream, what: &[u8], error: io::Error) {
+    let text = InlineText::<{ REASON_SIZE }>::of(error);
+    complain(rt, what);
+    complain(rt, b": ");
+    complain(rt, reason(text.as_str()).as_bytes());
+    complain(rt, b"\n");
 }
 
 impl Report {
     pub fn new() -> Self {
         Report {
             waiting: 0,
-            lost: false,
+            lost: None,
             refused: false,
         }
     }
@@ -65,22 +118,22 @@ impl Report {
     }
 
     // What waits is handed to standard output; once that fails, nothing more is.
-    pub fn flush(mut self, room: &[u8]) -> Self {
+    pub fn flush(mut self, rt: &impl Print, room: &[u8]) -> Self {
         let waiting = self.waiting;
         self.waiting = 0;
-        if self.lost {
+        if self.lost.is_some() {
             return self;
         }
         if waiting <= room.len() {
-            self.lost = !io::write_all(STDOUT_FILENO, &room[..waiting]);
+            self.lost = rt.write_all(&room[..waiting]).err();
         }
         self
     }
 
-    pub fn byte(self, room: &mut [u8], b: u8) -> Self {
+    pub fn byte(self, rt: &impl Print, room: &mut [u8], b: u8) -> Self {
         let mut next = self;
         if room.len() <= next.waiting {
-            next = next.flush(room);
+            next = next.flush(rt, room);
         }
         let at = next.waiting;
         if at < room.len() {
@@ -90,69 +143,61 @@ impl Report {
         next
     }
 
-    pub fn bytes(self, room: &mut [u8], s: &[u8]) -> Self {
+    pub fn bytes(self, rt: &impl Print, room: &mut [u8], s: &[u8]) -> Self {
         let mut next = self;
-        let mut i = 0;
-        while i < s.len() {
-            next = next.byte(room, s[i]);
-            i += 1;
+        for b in s {
+            next = next.byte(rt, room, *b);
         }
         next
     }
 
     // A line of a table, without the spaces that fill it up.
-    pub fn line(self, room: &mut [u8], line: &[u8]) -> Self {
+    pub fn line(self, rt: &impl Print, room: &mut [u8], line: &[u8]) -> Self {
         let n = trimmed(line);
-        self.bytes(room, &line[..n])
+        self.bytes(rt, room, &line[..n])
     }
 
-    pub fn argument(self, room: &mut [u8], i: usize) -> Self {
-        let mut word = io::buffer();
-        let n = os::arg(i, &mut word);
-        self.bytes(room, &word[..n])
+    pub fn argument<R: Print + Env>(self, rt: &R, room: &mut [u8], i: usize) -> Self {
+        let mut word = word();
+        let n = argument(rt, i, &mut word);
+        self.bytes(rt, room, &word[..n])
     }
 
-    pub fn decimal(self, room: &mut [u8], n: u64) -> Self {
-        let mut digits = [0u8; 20];
-        let k = io::decimal(n, &mut digits);
-        self.bytes(room, &digits[..k])
+    pub fn decimal(self, rt: &impl Print, room: &mut [u8], n: u64) -> Self {
+        let digits = InlineText::<20>::of(n);
+        self.bytes(rt, room, digits.as_str().as_bytes())
     }
 
     // In capitals.
-    pub fn hex(self, room: &mut [u8], n: u64, width: usize) -> Self {
-        let mut digits = [0u8; 16];
-        let k = io::hex(n, width, &mut digits);
-        self.capitals(room, &digits[..k])
+    pub fn hex(self, rt: &impl Print, room: &mut [u8], n: u64, width: usize) -> Self {
+        let digits = InlineText::<16>::of(format_args!("{n:0width$x}"));
+        self.capitals(rt, room, digits.as_str().as_bytes())
     }
 
-    pub fn code(self, room: &mut [u8], c: u32) -> Self {
-        self.hex(room, c as u64, HEX_WIDTH)
+    pub fn code(self, rt: &impl Print, room: &mut [u8], c: u32) -> Self {
+        self.hex(rt, room, c as u64, HEX_WIDTH)
     }
 
-    fn capitals(self, room: &mut [u8], s: &[u8]) -> Self {
+    fn capitals(self, rt: &impl Print, room: &mut [u8], s: &[u8]) -> Self {
         let mut next = self;
-        let mut i = 0;
-        while i < s.len() {
-            next = next.byte(room, upper(s[i]));
-            i += 1;
+        for b in s {
+            next = next.byte(rt, room, upper(*b));
         }
         next
     }
 
     // A byte of a name or of a detail.
-    pub fn spelled(self, room: &mut [u8], b: u8) -> Self {
+    pub fn spelled(self, rt: &impl Print, room: &mut [u8], b: u8) -> Self {
         if is_spelled(b) {
-            return self.bytes(room, b"\\x").hex(room, b as u64, 2);
+            return self.bytes(rt, room, b"\\x").hex(rt, room, b as u64, 2);
         }
-        self.byte(room, b)
+        self.byte(rt, room, b)
     }
 
-    pub fn name(self, room: &mut [u8], s: &[u8]) -> Self {
+    pub fn name(self, rt: &impl Print, room: &mut [u8], s: &[u8]) -> Self {
         let mut next = self;
-        let mut i = 0;
-        while i < s.len() {
-            next = next.spelled(room, s[i]);
-            i += 1;
+        for b in s {
+            next = next.spelled(rt, room, *b);
         }
         next
     }

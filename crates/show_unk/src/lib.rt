@@ -1,8 +1,13 @@
 // The entries of unk.def in lines.
+#![tactic(auto)]
+
 use command::Asked;
 use file::FileRead;
 use paper::Counts;
-use say::Report;
+use say::{ErrorStream, Report};
+use std::env::Env;
+use std::fs::Files;
+use std::io::{Input, Print};
 use unk::UnkOutcome;
 use word::{WordEntry, WordFound};
 
@@ -25,51 +30,52 @@ const NEGATIVE: u16 = 32768;
 
 const NUL: u8 = 0;
 
-fn put_field(r: Report, room: &mut [u8], n: u16) -> Report {
-    r.byte(room, b' ').decimal(room, n as u64)
+fn put_field(rt: &impl Print, r: Report, room: &mut [u8], n: u16) -> Report {
+    r.byte(rt, room, b' ').decimal(rt, room, n as u64)
 }
 
-fn put_cost(r: Report, room: &mut [u8], cost: u16) -> Report {
+fn put_cost(rt: &impl Print, r: Report, room: &mut [u8], cost: u16) -> Report {
     if cost < NEGATIVE {
-        return put_field(r, room, cost);
+        return put_field(rt, r, room, cost);
     }
-    r.bytes(room, b" -")
-        .decimal(room, std::num::wrapping_sub_u16(0, cost) as u64)
+    r.bytes(rt, room, b" -")
+        .decimal(rt, room, std::num::wrapping_sub_u16(0, cost) as u64)
 }
 
-fn put_numbers(r: Report, room: &mut [u8], w: WordEntry) -> Report {
-    let left = put_field(r, room, w.left);
-    let right = put_field(left, room, w.right);
-    put_cost(right, room, w.cost)
+fn put_numbers(rt: &impl Print, r: Report, room: &mut [u8], w: WordEntry) -> Report {
+    let left = put_field(rt, r, room, w.left);
+    let right = put_field(rt, left, room, w.right);
+    put_cost(rt, right, room, w.cost)
 }
 
 // A byte of the details: where NUL joins them in memory, a comma does in the text.
-fn put_detail_byte(r: Report, room: &mut [u8], b: u8) -> Report {
+fn put_detail_byte(rt: &impl Print, r: Report, room: &mut [u8], b: u8) -> Report {
     if b == NUL {
-        return r.byte(room, b',');
+        return r.byte(rt, room, b',');
     }
-    r.spelled(room, b)
+    r.spelled(rt, room, b)
 }
 
-fn put_detail_bytes(r: Report, room: &mut [u8], details: &[u8]) -> Report {
+fn put_detail_bytes(rt: &impl Print, r: Report, room: &mut [u8], details: &[u8]) -> Report {
     let mut next = r;
     let mut i = 0;
     while i < details.len() {
-        next = put_detail_byte(next, room, details[i]);
+        next = put_detail_byte(rt, next, room, details[i]);
         i += 1;
     }
     next
 }
 
-fn put_details(r: Report, room: &mut [u8], details: &[u8]) -> Report {
+fn put_details(rt: &impl Print, r: Report, room: &mut [u8], details: &[u8]) -> Report {
     if details.len() == 0 {
-        return r.byte(room, b'\n');
+        return r.byte(rt, room, b'\n');
     }
-    put_detail_bytes(r.byte(room, b' '), room, details).byte(room, b'\n')
+    put_detail_bytes(rt, r.byte(rt, room, b' '), room, details).byte(rt, room, b'\n')
 }
 
 // The name of an entry's category, or - where it is none's.
 fn put_category(
+    rt: &impl Print,
     r: Report,
     room: &mut [u8],
     names: &[u8],
@@ -80,12 +86,13 @@ fn put_category(
     let at = unk_enter::ENTRY_BYTES * show::few(i) + MARK_AT;
     let mark = table::get_u16(entries, at) as usize;
     if mark == 0 {
-        return r.byte(room, b'-');
+        return r.byte(rt, room, b'-');
     }
-    show::put_name(r, room, names, categories, mark - 1)
+    show::put_name(rt, r, room, names, categories, mark - 1)
 }
 
 fn put_entry(
+    rt: &impl Print,
     r: Report,
     room: &mut [u8],
     names: &[u8],
@@ -98,14 +105,15 @@ fn put_entry(
         return r;
     };
     let headed = r
-        .bytes(room, b"entry ")
-        .decimal(room, i as u64)
-        .byte(room, b' ');
-    let named = put_category(headed, room, names, categories, entries, i);
-    put_numbers(named, room, w)
+        .bytes(rt, room, b"entry ")
+        .decimal(rt, room, i as u64)
+        .byte(rt, room, b' ');
+    let named = put_category(rt, headed, room, names, categories, entries, i);
+    put_numbers(rt, named, room, w)
 }
 
 fn put_entry_line(
+    rt: &impl Print,
     r: Report,
     room: &mut [u8],
     names: &[u8],
@@ -116,8 +124,9 @@ fn put_entry_line(
     count: usize,
     i: usize,
 ) -> Report {
-    let numbered = put_entry(r, room, names, categories, entries, count, i);
+    let numbered = put_entry(rt, r, room, names, categories, entries, count, i);
     put_details(
+        rt,
         numbered,
         room,
         word::word_details(offsets, details, count, i),
@@ -125,6 +134,7 @@ fn put_entry_line(
 }
 
 fn show_entries(
+    rt: &impl Print,
     r: Report,
     room: &mut [u8],
     names: &[u8],
@@ -138,7 +148,7 @@ fn show_entries(
     let mut i = 0;
     while i < count {
         next = put_entry_line(
-            next, room, names, categories, entries, offsets, details, count, i,
+            rt, next, room, names, categories, entries, offsets, details, count, i,
         );
         i += 1;
     }
@@ -148,7 +158,8 @@ fn show_entries(
 // ---- unk.def over a dictionary
 
 // The rooms of the reader, lent whole. What is refused is named by argument i.
-fn put_unk_text<'a>(
+fn put_unk_text<'a, R: Env + Print>(
+    rt: &R,
     i: usize,
     out: &mut [u8],
     names: &'a [u8],
@@ -178,8 +189,9 @@ fn put_unk_text<'a>(
         &mut places,
         &mut members,
     ) {
-        UnkOutcome::Refused(x) => refusal::put_refusal(Report::new(), out, i, text, x),
+        UnkOutcome::Refused(x) => refusal::put_refusal(rt, Report::new(), out, i, text, x),
         UnkOutcome::Accepted(u) => show_entries(
+            rt,
             Report::new(),
             out,
             names,
@@ -193,7 +205,8 @@ fn put_unk_text<'a>(
 }
 
 // The second argument is the unk.def.
-pub fn put_unk<'a>(
+pub fn put_unk<'a, R: Env + ErrorStream + Files + Input + Print>(
+    rt: &R,
     asked: Asked,
     out: &mut [u8],
     names: &'a [u8],
@@ -205,11 +218,12 @@ pub fn put_unk<'a>(
 ) -> Report {
     let mut text = [0u8; TEXT_ROOM];
     let i = std::num::wrapping_add_usize(asked.first, 1);
-    let FileRead::Bytes(n) = file::read_file(i, &mut text) else {
+    let FileRead::Bytes(n) = file::read_file(rt, i, &mut text) else {
         return Report::new().refuse();
     };
     let size = file::least(&text, n);
     put_unk_text(
+        rt,
         i,
         out,
         names,
