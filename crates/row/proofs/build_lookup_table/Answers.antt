@@ -21,7 +21,7 @@ returns-then-not-reading_holds c =
       ranges = a.ranges.now;
       references = a.references.now;
     } in
-    builds_apart t a.counts lent (untrue (holds t a.counts) (clash _ (holds t a.counts) c.reading_holds.ensures c.if-not-reading_holds.taken))
+    builds_apart t a.counts lent (untrue (holds t a.counts) (clash _ (holds t a.counts) c.reading_holds.ensures c.if-not-reading_holds.true-raw))
 
 pub fallback_of-fallback-requires : goal.fallback_of-fallback-requires
 fallback_of-fallback-requires c =
@@ -34,7 +34,7 @@ fallback_of-fallback-requires c =
       ranges = a.ranges.now;
       references = a.references.now;
     } in
-    few_names t a.counts (passed _ (holds t a.counts) c.reading_holds.ensures c.if-not-reading_holds.left)
+    few_names t a.counts (passed _ (holds t a.counts) c.reading_holds.ensures c.if-not-reading_holds.false-raw)
 
 pub build_rows-requires : goal.build_rows-requires
 build_rows-requires c =
@@ -48,7 +48,7 @@ build_rows-requires c =
       references = a.references.now;
     } in
     readable t a.counts
-    (passed _ (holds t a.counts) c.reading_holds.ensures c.if-not-reading_holds.left)
+    (passed _ (holds t a.counts) c.reading_holds.ensures c.if-not-reading_holds.false-raw)
 
 pub returns : goal.returns
 returns c =
@@ -64,6 +64,6 @@ returns c =
       references = a.references.now;
     } in
     builds_rows t a.counts lent
-    (passed _ (holds t a.counts) c.reading_holds.ensures c.if-not-reading_holds.left)
+    (passed _ (holds t a.counts) c.reading_holds.ensures c.if-not-reading_holds.false-raw)
     _ _ _ c.fallback_of-fallback.ensures
     c.build_rows.ensures
