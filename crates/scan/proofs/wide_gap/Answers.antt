@@ -15,13 +15,13 @@ slice_bounds-white_width-end c =
 pub returns-in_default : goal.returns-in_default
 returns-in_default c =
     let a = c.args in
-    width_other a.text.now a.at a.end a.white (omega arith) (omega arith) (omega arith) (c.in_default-1.rest.1)
+    width_other a.text.now a.at a.end a.white (omega arith) (omega arith) (omega arith) (λ i. omega arith)
     (inl (omega arith)) (c.if-white.true)
 
 pub returns-in_default-2 : goal.returns-in_default-2
 returns-in_default-2 c =
     let a = c.args in
-    width_other a.text.now a.at a.end a.white (omega arith) (omega arith) (omega arith) (c.in_default-1.rest.1)
+    width_other a.text.now a.at a.end a.white (omega arith) (omega arith) (omega arith) (λ i. omega arith)
     (inr (omega arith)) (c.if-white.true)
 
 pub returns-in-194 : goal.returns-in-194
