@@ -1,4 +1,3 @@
-use Prim.Native.Nat.{◌-◌}
 use native.Mathlib.Omega.{arith}
 use Rattle.by_name.proofs.Placed.{inside_begins, inside_fails, inside_goes, inside_ends}
 use Rattle.by_name.proofs.names_inside.Goals as goal

@@ -6,13 +6,13 @@ use Rattle.by_name.specs.declared.CategoryFound.TheVariants.{Category, Absent, R
 use Rattle.fallback.proofs.fallback_of.Goals as goal
 
 pub overflow_cast-result : goal.overflow_cast-result
-overflow_cast-result c = let n = c.number-1.given in let h = found_below _ _ _ _ _ c.find_category.ensures n.0.0 n.1 in omega arith
+overflow_cast-result c = let h = found_below _ _ _ _ _ c.find_category.ensures c.in-Category.number c.in-Category.is in omega arith
 
 pub returns-in-Category : goal.returns-in-Category
-returns-in-Category c = let n = c.number-1.given in found_as _ _ _ _ _ c.find_category.ensures (Category n.0.0) n.1
+returns-in-Category c = found_as _ _ _ _ _ c.find_category.ensures (Category c.in-Category.number) c.in-Category.is
 
 pub returns-in-Absent : goal.returns-in-Absent
 returns-in-Absent c = found_as _ _ _ _ _ c.find_category.ensures Absent c.in-Absent.is
 
 pub returns-in-Refused : goal.returns-in-Refused
-returns-in-Refused c = let r = c._refusal-1.given in found_as _ _ _ _ _ c.find_category.ensures (Refused r.0.0) r.1
+returns-in-Refused c = found_as _ _ _ _ _ c.find_category.ensures (Refused c.in-Refused._refusal) c.in-Refused.is

@@ -15,6 +15,12 @@ overflow_add-end-in-InRows c = omega (arith, rows_inside _ _ _ c.locate_categori
 pub offset_bounds-row_pool-start : goal.offset_bounds-row_pool-start
 offset_bounds-row_pool-start c = omega (arith, rows_inside _ _ _ c.locate_categories.ensures _ c.in-InRows.is)
 
+pub slice_bounds-result-end : goal.slice_bounds-result-end
+slice_bounds-result-end c = omega (arith, flat_inside _ _ _ c.locate_categories.ensures _ c.in-InFlat.is)
+
+pub slice_bounds-result-end-in-InRows : goal.slice_bounds-result-end-in-InRows
+slice_bounds-result-end-in-InRows c = omega (arith, rows_inside _ _ _ c.locate_categories.ensures _ c.in-InRows.is)
+
 pub returns-in-InFlat : goal.returns-in-InFlat
 returns-in-InFlat c = flat_part_lem _ _ _ c.locate_categories.ensures _ c.in-InFlat.is
 
