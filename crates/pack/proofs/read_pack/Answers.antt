@@ -9,15 +9,16 @@ use Rattle.room.proofs.Sizes.{RoomIn, roomy, parts_sized}
 use Rattle.room.proofs.Whole.{short_room, reads}
 use Rattle.pack.proofs.Answer.{refusals_clear}
 use Rattle.pack.proofs.Kept.{part_kept}
+use Rattle.pack.proofs.read_pack.Goals.{Start, Else-not-has_room}
 use Rattle.pack.proofs.read_pack.Goals as goal
 
 -- the tables that are lent, and that they are large enough behind the test: stated once, at the place where it is known
-abbrev lent : goal.Start → Tables
+abbrev lent : Start → Tables
 lent c =
     record
     { names = c.args.names.now; categories = c.args.categories.now; definitions = c.args.definitions.now; ranges = c.args.ranges.now; references = c.args.references.now }
 
-roomed : (c : goal.Else-not-has_room) → RoomIn (lent c)
+roomed : (c : Else-not-has_room) → RoomIn (lent c)
 roomed c = roomy (lent c) c.has_room.ensures c.if-not-has_room.left
 
 pub returns-then-not-has_room : goal.returns-then-not-has_room
