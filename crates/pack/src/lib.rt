@@ -26,7 +26,7 @@ fn fill_tables(
     ranges: &mut [u8],
     references: &mut [u8],
 ) -> Outcome
-    requires { record { names = names.now; categories = categories.old; definitions = definitions.old; ranges = ranges.old; references = references.old } ≡ in_room no_tables }
+    requires { record { names = names.old; categories = categories.old; definitions = definitions.old; ranges = ranges.old; references = references.old } ≡ in_room no_tables }
     ensures { Fill (read_pack pack.now) (record { names = names.new; categories = categories.new; definitions = definitions.new; ranges = ranges.new; references = references.new }) result }
 {
     match read_head(pack, BitCursor { at: 0 }) {
@@ -72,7 +72,7 @@ fn read_into(
     ranges: &mut [u8],
     references: &mut [u8],
 ) -> Outcome
-    requires { Sized (record { names = names.now; categories = categories.old; definitions = definitions.old; ranges = ranges.old; references = references.old }) }
+    requires { Sized (record { names = names.old; categories = categories.old; definitions = definitions.old; ranges = ranges.old; references = references.old }) }
     ensures { ReadInto (read_pack pack.now) (record { names = names.new; categories = categories.new; definitions = definitions.new; ranges = ranges.new; references = references.new }) result }
 {
     room::zero_all(names, categories, definitions, ranges, references);

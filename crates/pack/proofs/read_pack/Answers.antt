@@ -1,5 +1,6 @@
 -- `pack::read_pack` meets its contract. Assumes nothing.
-use Prim.Native.Nat.{◌*◌}
+use Prim.Native.Nat.{ℕ, ◌*◌}
+use mathlib.Core.List.{List}
 use Rattle.paper.specs.Sizes.{max_name_bytes, max_categories, max_category_lines, max_ranges, max_references}
 use Rattle.paper.specs.Computed.ReadPack.{read_pack}
 use Rattle.paper.specs.Tables.Layout.{Tables, name_slot_size, definition_size, range_slot_size, reference_size}
@@ -11,17 +12,18 @@ use Rattle.pack.proofs.Answer.{refusals_clear}
 use Rattle.pack.proofs.Kept.{part_kept}
 use Rattle.pack.proofs.read_pack.Goals as goal
 
--- the tables that are lent, and that they are large enough behind the test: stated once, at the place where it is known
-abbrev lent : goal.Start → Tables
-lent c =
-    record
-    { names = c.args.names.now; categories = c.args.categories.now; definitions = c.args.definitions.now; ranges = c.args.ranges.now; references = c.args.references.now }
+-- the tables that are lent
+abbrev lent : (names categories definitions ranges references : List ℕ) → Tables
+lent names categories definitions ranges references =
+    record { names = names; categories = categories; definitions = definitions; ranges = ranges; references = references }
 
-roomed : (c : goal.Else-not-has_room) → RoomIn (lent c)
-roomed c = roomy (lent c) c.has_room.ensures c.if-not-has_room.left
+-- that they are large enough behind the test: stated once, at the place where it is known
+roomed : (c : goal.Else-not-has_room)
+    → RoomIn (lent c.args.names.now c.args.categories.now c.args.definitions.now c.args.ranges.now c.args.references.now)
+roomed c = roomy (lent c.args.names.now c.args.categories.now c.args.definitions.now c.args.ranges.now c.args.references.now) c.has_room.ensures c.if-not-has_room.left
 
 pub returns-then-not-has_room : goal.returns-then-not-has_room
-returns-then-not-has_room c = short_room (read_pack c.args.pack.now) (lent c) (lacking (has_room (lent c)) c.has_room.ensures c.if-not-has_room.taken)
+returns-then-not-has_room c = short_room (read_pack c.args.pack.now) (lent c.args.names.now c.args.categories.now c.args.definitions.now c.args.ranges.now c.args.references.now) (lacking (has_room (lent c.args.names.now c.args.categories.now c.args.definitions.now c.args.ranges.now c.args.references.now)) c.has_room.ensures c.if-not-has_room.taken)
 
 pub slice_bounds-read_into-end : goal.slice_bounds-read_into-end
 slice_bounds-read_into-end c = (roomed c).first
@@ -54,7 +56,7 @@ pub slice_bounds-read_into-end-10 : goal.slice_bounds-read_into-end-10
 slice_bounds-read_into-end-10 c = part_long (reference_size * max_references) c.args.references.now (roomed c).fifth
 
 pub read_into-requires : goal.read_into-requires
-read_into-requires c = parts_sized (lent c) (roomed c)
+read_into-requires c = parts_sized (lent c.args.names.now c.args.categories.now c.args.definitions.now c.args.ranges.now c.args.references.now) (roomed c)
 
 pub shape_of-names : goal.shape_of-names
 shape_of-names c = part_kept max_name_bytes c.args.names.now c.read_into.new.names c.read_into.auto.names
@@ -74,7 +76,7 @@ shape_of-references c = part_kept (reference_size * max_references) c.args.refer
 pub returns : goal.returns
 returns c =
     let l = c.read_into.new in
-    reads (read_pack c.args.pack.now) (lent c) (having (has_room (lent c)) c.has_room.ensures c.if-not-has_room.left)
+    reads (read_pack c.args.pack.now) (lent c.args.names.now c.args.categories.now c.args.definitions.now c.args.ranges.now c.args.references.now) (having (has_room (lent c.args.names.now c.args.categories.now c.args.definitions.now c.args.ranges.now c.args.references.now)) c.has_room.ensures c.if-not-has_room.left)
     (refusals_clear c.args.pack.now)
     (record { names = l.1.0; categories = l.1.1.0; definitions = l.1.1.1.0; ranges = l.1.1.1.1.0; references = l.1.1.1.1.1.0 })
     c.read_into.result c.read_into.ensures

@@ -1,5 +1,4 @@
 use native.Mathlib.Omega.{arith}
-use Prim.Native.Nat.{◌-◌}
 use mathlib.Core.Path.{refl, sym}
 use Rattle.pack_names.proofs.Names.{names_long, categories_long}
 use Rattle.pack_names.proofs.Naming.{going_naming, no_name_yet, name_off, name_more, all_names_lem}
