@@ -1,14 +1,14 @@
 -- The five lengths that the reader asks for, tables of just these sizes, zero in all their places, and what lies past them.
 -- Assumes nothing.
 use Prim.Native.Nat.{ℕ}
-use mathlib.Core.Path.{◌≡◌, refl}
-use mathlib.Core.Bool.{Bool, true, false, not}
+use mathlib.Core.Path.{◌≡◌, refl, sym, ◌∙◌}
+use mathlib.Core.Bool.{Bool, true}
 use mathlib.Core.List.{List}
 use lib.ListN.{length, take}
 use lib.Seq.{length-take-le}
 use Rattle.paper.specs.Sizes.{max_detail_bytes}
 use Rattle.paper.specs.Tables.Lent.{zeroed}
-use Rattle.room.proofs.Five.{Room, long_enough, room_is, having, zero_padded, zero_past}
+use Rattle.room.proofs.Five.{Room, long_enough, room_is, zero_padded, zero_past}
 use Rattle.unk.specs.Layout.{UnkTables}
 use Rattle.unk.specs.Parse.{entries_size, offsets_size, places_size, members_size, room_for, has_room, in_room, past, behind, cleared}
 use Rattle.unk.specs.Filled.{Sized, no_tables}
@@ -31,8 +31,9 @@ RoomIn t =
 pub room_in : (t : UnkTables) → true ≡ has_room t → RoomIn t
 room_in t h = room_is (room_asked _ _ _ _ _) h
 
-pub roomy : (t : UnkTables) {x : Bool} → x ≡ has_room t → not x ≡ false → RoomIn t
-roomy t h n = room_in t (having (has_room t) h n)
+pub roomy : (a b c d e : List ℕ) {x : Bool} → x ≡ room_for (length a) (length b) (length c) (length d) (length e) → x ≡ true
+    → RoomIn (record { entries = a; offsets = b; details = c; places = d; members = e })
+roomy a b c d e h n = room_in (record { entries = a; offsets = b; details = c; places = d; members = e }) (sym n ∙ h)
 
 -- ---- parts of the sizes
 

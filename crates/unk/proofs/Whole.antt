@@ -3,13 +3,13 @@ use Prim.Native.Nat.{ℕ, suc, ◌≤◌, ◌<◌}
 use native.Mathlib.Nat.{le_refl}
 use native.Mathlib.Omega.{arith}
 use mathlib.Core.Path.{◌≡◌, refl, sym, ap, ◌∙◌, subst}
-use mathlib.Core.Bool.{Bool, true, false, not, cond}
+use mathlib.Core.Bool.{Bool, true, false, cond}
 use mathlib.Core.List.{List, [], ◌∷◌, ◌++◌, map}
 use mathlib.Core.Option.{none, some}
 use lib.ListN.{length, take, drop, length-map}
 use lib.Seq.{take-length}
 use mir.Facts.{and_yes}
-use borrow.Author.Tests.{le-ltb, not-true, not-false}
+use borrow.Author.Tests.{le-ltb}
 use Rattle.paper.specs.Sizes.{max_text_bytes, max_categories, max_detail_bytes}
 use Rattle.paper.specs.Refusals.{room_short, text_long, text_ill_formed, tables_apart}
 use Rattle.paper.specs.Lists.{joined}
@@ -86,14 +86,14 @@ module _ (t : Tables) (n : Counts) (q : Reading) (e : handed_in t n ≡ some q) 
 -- ---- before any line
 
 module _ (t : Tables) (n : Counts) (text : List ℕ) where
-  pub apart : {x : Bool} → x ≡ holds t n → not x ≡ true → UnsoundInput t n text tables_apart 0
+  pub apart : {x : Bool} → x ≡ holds t n → x ≡ false → UnsoundInput t n text tables_apart 0
   unfolding handed_in clears
-  apart {x} e h =
-      let f : holds t n ≡ false = sym e ∙ not-true x h in
+  apart e h =
+      let f : holds t n ≡ false = sym e ∙ h in
       record { is = ap (λ b. over_reading (cond b (some (decoded t n)) none) text) f; kept = refl }
 
-  pub holding : {x : Bool} → x ≡ holds t n → not x ≡ false → holds t n ≡ true
-  holding {x} e h = sym e ∙ not-false x h
+  pub holding : {x : Bool} → x ≡ holds t n → x ≡ true → holds t n ≡ true
+  holding e h = sym e ∙ h
 
   module _ (h : holds t n ≡ true) where
     over : over_reading (handed_in t n) text ≡ read_unk (decoded t n).names text

@@ -7,19 +7,19 @@ use Rattle.unk.proofs.judge.Goals as goal
 pub returns-then-not-reading_holds : goal.returns-then-not-reading_holds
 returns-then-not-reading_holds c = let a = c.args in
     let t : Tables = record { names = a.names.now; categories = a.categories.now; definitions = a.definitions.now; ranges = a.ranges.now; references = a.references.now } in
-    apart t a.counts a.text.now (c.reading_holds.ensures) (c.if-not-reading_holds.taken)
+    apart t a.counts a.text.now (c.reading_holds.ensures) (c.if-not-reading_holds.true)
 
 pub returns-then-text-gt-MAX_TEXT_BYTES : goal.returns-then-text-gt-MAX_TEXT_BYTES
 returns-then-text-gt-MAX_TEXT_BYTES c = let a = c.args in
     let t : Tables = record { names = a.names.now; categories = a.categories.now; definitions = a.definitions.now; ranges = a.ranges.now; references = a.references.now } in
-    long_text t a.counts a.text.now (holding t a.counts a.text.now (c.reading_holds.ensures) (c.if-not-reading_holds.left)) (omega arith)
+    long_text t a.counts a.text.now (holding t a.counts a.text.now (c.reading_holds.ensures) (c.if-not-reading_holds.false)) (omega arith)
 
 pub returns-then-prefix-text : goal.returns-then-prefix-text
 returns-then-prefix-text c = let a = c.args in
     let t : Tables = record { names = a.names.now; categories = a.categories.now; definitions = a.definitions.now; ranges = a.ranges.now; references = a.references.now } in
-    ill_text t a.counts a.text.now (holding t a.counts a.text.now (c.reading_holds.ensures) (c.if-not-reading_holds.left)) (omega arith) (c.valid_prefix-prefix.ensures) (omega arith)
+    ill_text t a.counts a.text.now (holding t a.counts a.text.now (c.reading_holds.ensures) (c.if-not-reading_holds.false)) (omega arith) (c.valid_prefix-prefix.ensures) (omega arith)
 
 pub returns : goal.returns
 returns c = let a = c.args in
     let t : Tables = record { names = a.names.now; categories = a.categories.now; definitions = a.definitions.now; ranges = a.ranges.now; references = a.references.now } in
-    sound t a.counts a.text.now (holding t a.counts a.text.now (c.reading_holds.ensures) (c.if-not-reading_holds.left)) (omega arith) (c.valid_prefix-prefix.ensures) (omega arith)
+    sound t a.counts a.text.now (holding t a.counts a.text.now (c.reading_holds.ensures) (c.if-not-reading_holds.false)) (omega arith) (c.valid_prefix-prefix.ensures) (omega arith)
