@@ -59,7 +59,7 @@ fn fill_flat(
     pool: &mut [u16],
 )
     requires { Buildable ranges.now references.now count (fallback_row fallback) × (Clean seen.old × (length index.old ≤ bmp_size)) }
-    ensures { FlatFilled (boundaries_of (slots_got 0 count ranges.now)) (rows_of (fallback_row fallback) (slots_got 0 count ranges.now) references.now) (record { index = index.entry.now; pool = pool.old }) (record { index = index.exit.now; pool = pool.new }) }
+    ensures { FlatFilled (boundaries_of (slots_got 0 count ranges.now)) (rows_of (fallback_row fallback) (slots_got 0 count ranges.now) references.now) (record { index = index.old; pool = pool.old }) (record { index = index.new; pool = pool.new }) }
 {
     let mut w = window::open_window(ranges, count, 0, near);
     let mut rows: u32 = 0;
@@ -96,7 +96,7 @@ pub fn fill_fresh(
     pool: &mut [u16],
 )
     requires { Buildable ranges.now references.now count (fallback_row fallback) × (length index.old ≤ bmp_size) }
-    ensures { FlatFilled (boundaries_of (slots_got 0 count ranges.now)) (rows_of (fallback_row fallback) (slots_got 0 count ranges.now) references.now) (record { index = index.entry.now; pool = pool.old }) (record { index = index.exit.now; pool = pool.new }) }
+    ensures { FlatFilled (boundaries_of (slots_got 0 count ranges.now)) (rows_of (fallback_row fallback) (slots_got 0 count ranges.now) references.now) (record { index = index.old; pool = pool.old }) (record { index = index.new; pool = pool.new }) }
 {
     let mut seen = [0u32; MAX_CATEGORIES];
     let mut near = [0u8; NEAR_BYTES];

@@ -29,7 +29,7 @@ fn build_flat(
     pool: &mut [u16],
 ) -> Built
     requires { Buildable ranges.now references.now count (fallback_row fallback) }
-    ensures { BuildsOf (boundaries_of (slots_got 0 count ranges.now)) (rows_of (fallback_row fallback) (slots_got 0 count ranges.now) references.now) (record { index = index.entry.now; pool = pool.old }) (record { index = index.exit.now; pool = pool.new }) result }
+    ensures { BuildsOf (boundaries_of (slots_got 0 count ranges.now)) (rows_of (fallback_row fallback) (slots_got 0 count ranges.now) references.now) (record { index = index.old; pool = pool.old }) (record { index = index.new; pool = pool.new }) result }
 {
     let need = fill_rows::rows_need(ranges, references, count, fallback);
     let places = need.places;
@@ -59,7 +59,7 @@ pub fn build_flat_table<'a>(
     flat_index: &mut [u32],
     flat_pool: &mut [u16],
 ) -> Built
-    ensures { BuildsFlat (record { names = names.entry.now; categories = categories.now; definitions = definitions.now; ranges = ranges.now; references = references.now }) counts (record { index = flat_index.old; pool = flat_pool.old }) (record { index = flat_index.new; pool = flat_pool.new }) result }
+    ensures { BuildsFlat (record { names = names.now; categories = categories.now; definitions = definitions.now; ranges = ranges.now; references = references.now }) counts (record { index = flat_index.old; pool = flat_pool.old }) (record { index = flat_index.new; pool = flat_pool.new }) result }
 {
     if !hold::reading_holds(names, categories, definitions, ranges, references, counts) {
         return Built::Refused(Refusal {

@@ -54,7 +54,7 @@ fn put_pack<'a>(
 )
     requires t { T (holds (record { names = names.now; categories = categories.now; definitions = definitions.now; ranges = ranges.now; references = references.now }) counts) }
     requires counts_in_bounds { pack_length counts ≤ length out.old }
-    ensures { out.new ≡ pack_bytes (decoded (record { names = names.entry.now; categories = categories.now; definitions = definitions.now; ranges = ranges.now; references = references.now }) counts) ++ drop (length (pack_bytes (decoded (record { names = names.entry.now; categories = categories.now; definitions = definitions.now; ranges = ranges.now; references = references.now }) counts))) out.old }
+    ensures { out.new ≡ pack_bytes (decoded (record { names = names.now; categories = categories.now; definitions = definitions.now; ranges = ranges.now; references = references.now }) counts) ++ drop (length (pack_bytes (decoded (record { names = names.now; categories = categories.now; definitions = definitions.now; ranges = ranges.now; references = references.now }) counts))) out.old }
 {
     let end = put_parts::put_fields(
         out,
@@ -80,7 +80,7 @@ pub fn write_pack<'a>(
     counts: Counts,
     out: &mut [u8],
 ) -> Written
-    ensures { WritesPack (record { names = names.entry.now; categories = categories.now; definitions = definitions.now; ranges = ranges.now; references = references.now }) counts out.old out.new result }
+    ensures { WritesPack (record { names = names.now; categories = categories.now; definitions = definitions.now; ranges = ranges.now; references = references.now }) counts out.old out.new result }
 {
     if !hold::reading_holds(names, categories, definitions, ranges, references, counts) {
         return Written::Refused(Refusal {

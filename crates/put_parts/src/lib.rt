@@ -124,7 +124,7 @@ pub fn put_fields<'a>(
 ) -> BitWriter
     requires t { T (holds (record { names = names.now; categories = categories.now; definitions = definitions.now; ranges = ranges.now; references = references.now }) counts) }
     requires room { Room out.old start (pack_width counts) }
-    ensures { Puts out.old start (pack_fields (decoded (record { names = names.entry.now; categories = categories.now; definitions = definitions.now; ranges = ranges.now; references = references.now }) counts)) (pack_width counts) out.new result }
+    ensures { Puts out.old start (pack_fields (decoded (record { names = names.now; categories = categories.now; definitions = definitions.now; ranges = ranges.now; references = references.now }) counts)) (pack_width counts) out.new result }
 {
     let head = put_head(out, counts);
     let named = put_names(head, out, names, categories, counts.categories);

@@ -51,7 +51,7 @@ pub fn zero_all(
     ranges: &mut [u8],
     references: &mut [u8],
 )
-    ensures { record { names = names.exit.now; categories = categories.new; definitions = definitions.new; ranges = ranges.new; references = references.new } ≡ cleared (record { names = names.entry.now; categories = categories.old; definitions = definitions.old; ranges = ranges.old; references = references.old }) }
+    ensures { record { names = names.new; categories = categories.new; definitions = definitions.new; ranges = ranges.new; references = references.new } ≡ cleared (record { names = names.old; categories = categories.old; definitions = definitions.old; ranges = ranges.old; references = references.old }) }
 {
     table::zero(names, MAX_NAME_BYTES);
     table::zero(categories, CATEGORIES_SIZE);

@@ -127,8 +127,8 @@ fn append_entry(
 ) -> UnkCounts
     requires placed { Placed text.now start end e }
     requires count_le_max_categories { count ≤ max_categories }
-    requires room_left { RoomLeft (record { entries = entries.now; offsets = offsets.old; details = details.old }) counts (end - e.details) }
-    ensures { Appended (mark_in names.now categories.now count) text.now start end e (record { entries = entries.entry.now; offsets = offsets.old; details = details.old }) counts (record { entries = entries.exit.now; offsets = offsets.new; details = details.new }) result }
+    requires room_left { RoomLeft (record { entries = entries.old; offsets = offsets.old; details = details.old }) counts (end - e.details) }
+    ensures { Appended (mark_in names.now categories.now count) text.now start end e (record { entries = entries.old; offsets = offsets.old; details = details.old }) counts (record { entries = entries.new; offsets = offsets.new; details = details.new }) result }
 {
     let n = counts.entries;
     let used = counts.bytes;
@@ -159,8 +159,8 @@ pub fn enter_line(
 ) -> LineStep
     requires inside { Inside text.now start end }
     requires asked { Asked count end start counts }
-    requires working { Working (mark_in names.now categories.now count) (record { entries = entries.now; offsets = offsets.old; details = details.old }) counts }
-    ensures { Stepped (mark_in names.now categories.now count) (unk_line_of (drop start (take end text.now))) (record { entries = entries.entry.now; offsets = offsets.old; details = details.old }) counts (record { entries = entries.exit.now; offsets = offsets.new; details = details.new }) result }
+    requires working { Working (mark_in names.now categories.now count) (record { entries = entries.old; offsets = offsets.old; details = details.old }) counts }
+    ensures { Stepped (mark_in names.now categories.now count) (unk_line_of (drop start (take end text.now))) (record { entries = entries.old; offsets = offsets.old; details = details.old }) counts (record { entries = entries.new; offsets = offsets.new; details = details.new }) result }
 {
     match unk_line::parse_dictionary_entry(text, start, end) {
         UnkLine::NoEntry(k) => LineStep::Stop(k),

@@ -7,9 +7,9 @@ walk_lines-requires c = record { text_len_bound = c.requires.text_len_bound; hel
 
 pub list_members-requires : goal.list_members-requires
 list_members-requires c = let a = c.args in record {
-      marked = marked _ _ (mark_most a.names.now a.categories.now a.count) (c.requires.text_len_bound.1) (rw (c.in-Accepted.is) at (c.walk_lines.ensures)).held;
-      places_value = (zero_places (c.requires.members_value), zero_members (c.requires.members_value));
-    }
+  marked = marked _ _ (mark_most a.names.now a.categories.now a.count) (c.requires.text_len_bound.1) (rw (c.in-Accepted.is) at (c.walk_lines.ensures)).held;
+  places_value = (zero_places (c.requires.members_value), zero_members (c.requires.members_value));
+}
 
 pub returns-in-Refused : goal.returns-in-Refused
 returns-in-Refused c = rw (c.in-Refused.is) at (c.walk_lines.ensures)
