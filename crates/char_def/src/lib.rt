@@ -17,7 +17,7 @@ pub fn parse(
     ranges: &mut [u8],
     references: &mut [u8],
 ) -> Outcome
-    ensures { Parsed text.now (record { names = names.entry.now; categories = categories.old; definitions = definitions.old; ranges = ranges.old; references = references.old }) (record { names = names.exit.now; categories = categories.new; definitions = definitions.new; ranges = ranges.new; references = references.new }) result }
+    ensures { Parsed text.now (record { names = names.old; categories = categories.old; definitions = definitions.old; ranges = ranges.old; references = references.old }) (record { names = names.new; categories = categories.new; definitions = definitions.new; ranges = ranges.new; references = references.new }) result }
 {
     if !room::has_room(
         names.len(),

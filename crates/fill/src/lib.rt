@@ -23,8 +23,8 @@ fn fill_tables(
     references: &mut [u8],
 ) -> Walk
     requires text_len_bound { length text.now ≤ max_text_bytes }
-    requires references_value { record { names = names.now; categories = categories.old; definitions = definitions.old; ranges = ranges.old; references = references.old } ≡ in_room no_tables }
-    ensures { TablesFilled (read_all text.now) (record { names = names.exit.now; categories = categories.new; definitions = definitions.new; ranges = ranges.new; references = references.new }) result }
+    requires references_value { record { names = names.old; categories = categories.old; definitions = definitions.old; ranges = ranges.old; references = references.old } ≡ in_room no_tables }
+    ensures { TablesFilled (read_all text.now) (record { names = names.new; categories = categories.new; definitions = definitions.new; ranges = ranges.new; references = references.new }) result }
 {
     let mut slots = [0u64; MAX_CATEGORIES];
     match lines::walk_lines(text, names, &mut slots, definitions, ranges, references) {
@@ -46,8 +46,8 @@ pub fn read_lines(
     references: &mut [u8],
 ) -> Outcome
     requires text_len_bound { length text.now ≤ max_text_bytes }
-    requires sized { Sized (record { names = names.now; categories = categories.old; definitions = definitions.old; ranges = ranges.old; references = references.old }) }
-    ensures { ReadInto (read_all text.now) (record { names = names.exit.now; categories = categories.new; definitions = definitions.new; ranges = ranges.new; references = references.new }) result }
+    requires sized { Sized (record { names = names.old; categories = categories.old; definitions = definitions.old; ranges = ranges.old; references = references.old }) }
+    ensures { ReadInto (read_all text.now) (record { names = names.new; categories = categories.new; definitions = definitions.new; ranges = ranges.new; references = references.new }) result }
 {
     room::zero_all(names, categories, definitions, ranges, references);
     match fill_tables(text, names, categories, definitions, ranges, references) {
