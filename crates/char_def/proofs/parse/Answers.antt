@@ -94,7 +94,7 @@ pub read_lines-requires : goal.read_lines-requires
 read_lines-requires c =
     let a = c.args in
     let t : Tables = record { names = a.names.now; categories = a.categories.now; definitions = a.definitions.now; ranges = a.ranges.now; references = a.references.now } in
-    (c.if-text-gt-MAX_TEXT_BYTES.left, parts_sized t (roomy t (c.has_room.ensures) (c.if-not-has_room.left)))
+    record { text_len_bound = c.if-text-gt-MAX_TEXT_BYTES.left; sized = parts_sized t (roomy t (c.has_room.ensures) (c.if-not-has_room.left)) }
 
 pub returns : goal.returns
 returns c =
@@ -103,5 +103,5 @@ returns c =
     let l = c.read_lines.new in
     lines_parsed a.text.now t (having (has_room t) (c.has_room.ensures) (c.if-not-has_room.left)) (omega arith)
     (whole_formed a.text.now (c.valid_prefix-prefix.result) (c.valid_prefix-prefix.ensures) (omega arith))
-    (record { names = l.1.0; categories = l.1.1.0; definitions = l.1.1.1.0; ranges = l.1.1.1.1.0; references = l.1.1.1.1.1.0 })
+    (record { names = l.names; categories = l.categories; definitions = l.definitions; ranges = l.ranges; references = l.references })
     _ (c.read_lines.ensures)

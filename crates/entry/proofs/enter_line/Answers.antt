@@ -7,10 +7,10 @@ use Rattle.entry.proofs.Inside.{says_as, does_refuse, does_nothing, does_categor
 use Rattle.entry.proofs.enter_line.Goals as goal
 
 pub enter_category-requires : goal.enter_category-requires
-enter_category-requires c = let a = c.args in (c.requires.working, name_inside a.text.now a.start a.end _ (c.requires.inside) (says_as (Read (Category (c.in-Category.x))) (c.in-Read.is ∙ ap Read (c.in-Category.is)) (c.read_line.ensures)).placed)
+enter_category-requires c = let a = c.args in record { working = c.requires.working; inside = name_inside a.text.now a.start a.end _ (c.requires.inside) (says_as (Read (Category (c.in-Category.x))) (c.in-Read.is ∙ ap Read (c.in-Category.is)) (c.read_line.ensures)).placed }
 
 pub enter_range-requires : goal.enter_range-requires
-enter_range-requires c = let a = c.args in (c.requires.working, names_inside a.text.now a.start a.end _ (c.requires.inside) (says_as (Read (Range (c.in-Range.x))) (c.in-Read.is ∙ ap Read (c.in-Range.is)) (c.read_line.ensures)).placed)
+enter_range-requires c = let a = c.args in record { working = c.requires.working; inside = names_inside a.text.now a.start a.end _ (c.requires.inside) (says_as (Read (Range (c.in-Range.x))) (c.in-Read.is ∙ ap Read (c.in-Range.is)) (c.read_line.ensures)).placed }
 
 pub returns-in-Refused : goal.returns-in-Refused
 returns-in-Refused c r z = does_refuse (c.in-Refused.k) (says_as (Refused (c.in-Refused.k)) (c.in-Refused.is) (c.read_line.ensures)) r

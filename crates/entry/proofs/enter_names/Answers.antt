@@ -23,22 +23,22 @@ pub category_id-requires : goal.category_id-requires
 category_id-requires c = enter_room (c.loop-at.invariant) (c.next_word-w.result) (c.next_word-w.ensures) (omega arith)
 
 pub shape_of-names-in-Full : goal.shape_of-names-in-Full
-shape_of-names-in-Full c = c.category_id.auto.0 ∙ c.loop-at.invariant.store_kept
+shape_of-names-in-Full c = c.category_id.auto.names ∙ c.loop-at.invariant.store_kept
 
 pub shape_of-slots-in-Full : goal.shape_of-slots-in-Full
-shape_of-slots-in-Full c = c.category_id.auto.1.0 ∙ c.loop-at.invariant.slots_kept
+shape_of-slots-in-Full c = c.category_id.auto.slots ∙ c.loop-at.invariant.slots_kept
 
 pub shape_of-references-in-Full : goal.shape_of-references-in-Full
 shape_of-references-in-Full c = c.loop-at.invariant.refs_kept
 
 pub returns-in-Full : goal.returns-in-Full
-returns-in-Full c = enter_stops (c.loop-at.invariant) (c.next_word-w.result) (c.next_word-w.ensures) (omega arith) (c.in-Full.k) (c.category_id.new.0) (c.category_id.new.1.0) (rw (c.in-Full.is) at (c.category_id.ensures))
+returns-in-Full c = enter_stops (c.loop-at.invariant) (c.next_word-w.result) (c.next_word-w.ensures) (omega arith) (c.in-Full.k) (c.category_id.new.names) (c.category_id.new.slots) (rw (c.in-Full.is) at (c.category_id.ensures))
 
 pub overflow_mul-next : goal.overflow_mul-next
 overflow_mul-next c = let f = enter_fits (c.loop-at.invariant) (c.next_word-w.result) (c.next_word-w.ensures) (omega arith) in let r = c.loop-at.invariant.ready.room in omega arith
 
 pub overflow_cast-e : goal.overflow_cast-e
-overflow_cast-e c = let f = enter_number (c.loop-at.invariant) (c.next_word-w.result) (c.next_word-w.ensures) (omega arith) (c.in-Number.e) (c.category_id.new.0) (c.category_id.new.1.0) (rw (c.in-Number.is) at (c.category_id.ensures)) in omega arith
+overflow_cast-e c = let f = enter_number (c.loop-at.invariant) (c.next_word-w.result) (c.next_word-w.ensures) (omega arith) (c.in-Number.e) (c.category_id.new.names) (c.category_id.new.slots) (rw (c.in-Number.is) at (c.category_id.ensures)) in omega arith
 
 pub overflow_add-next : goal.overflow_add-next
 overflow_add-next c = let f = enter_fits (c.loop-at.invariant) (c.next_word-w.result) (c.next_word-w.ensures) (omega arith) in let r = c.loop-at.invariant.ready.few in omega arith
@@ -47,7 +47,7 @@ pub loop-at-smaller : goal.loop-at-smaller
 loop-at-smaller c = let g = c.next_word-w.ensures.from in let k = c.next_word-w.ensures.within (c.loop-at.invariant.upto) in omega arith
 
 pub loop-at-preserved : goal.loop-at-preserved
-loop-at-preserved c = enter_on (c.loop-at.invariant) (c.next_word-w.result) (c.next_word-w.ensures) (omega arith) (c.in-Number.e) (c.category_id.new.0) (c.category_id.new.1.0) (rw (c.in-Number.is) at (c.category_id.ensures)) _ (c.put_u16.ensures) (c.category_id.auto.0) (c.category_id.auto.1.0)
+loop-at-preserved c = enter_on (c.loop-at.invariant) (c.next_word-w.result) (c.next_word-w.ensures) (omega arith) (c.in-Number.e) (c.category_id.new.names) (c.category_id.new.slots) (rw (c.in-Number.is) at (c.category_id.ensures)) _ (c.put_u16.ensures) (c.category_id.auto.names) (c.category_id.auto.slots)
 
 pub shape_of-names : goal.shape_of-names
 shape_of-names c = c.loop-at.invariant.store_kept

@@ -7,7 +7,7 @@ use Rattle.lines.proofs.walk_lines.Given as goal
 
 abbrev pub invariant-loop-at : goal.invariant-loop-at
 invariant-loop-at l =
-    Walking l.text (record { store = l.names; l.slots = l.slots; l.definitions = l.definitions; l.ranges = l.ranges; l.references = l.references }) l.counts l.line l.at
+    Walking l.text (record { store = l.names; slots = l.slots; definitions = l.definitions; ranges = l.ranges; references = l.references }) l.counts l.line l.at
 
 abbrev pub decreases-loop-at : goal.decreases-loop-at
 decreases-loop-at l =

@@ -26,8 +26,7 @@ pub returns-in-At : goal.returns-in-At
 returns-in-At c names z =
     let a = c.args in
     let n = drop a.start (take a.end a.text.now) in
-    let i = c.i-1.given in
-    enters_known n z i.0.0 (finds_as names n (At i.0.0) i.1 (c.find_name.ensures names _ z))
+    enters_known n z c.in-At.i (finds_as names n (At c.in-At.i) c.in-At.is (c.find_name.ensures names _ z))
 
 pub returns-else-left-len : goal.returns-else-left-len
 returns-else-left-len c names z =
