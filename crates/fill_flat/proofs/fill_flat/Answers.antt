@@ -1,4 +1,3 @@
-use Prim.Native.Nat.{◌-◌}
 use native.Mathlib.Omega.{arith}
 use mathlib.Core.Path.{refl, ◌∙◌}
 use Rattle.fill_flat.proofs.Fills.{walk_start, next_rises, row_fits, walk_turn, walk_done}
@@ -14,10 +13,15 @@ pub overflow_add-rows : goal.overflow_add-rows
 overflow_add-rows c = omega (arith, c.loop-w.invariant.0.0.few, c.loop-w.invariant.0.0.most)
 
 pub covering_near-end-requires : goal.covering_near-end-requires
-covering_near-end-requires c = ((c.requires.0.readable.few, (omega (arith, c.loop-w.invariant.0.1), omega (arith, c.loop-w.invariant.0.0.room))), c.loop-w.invariant.1.0)
+covering_near-end-requires c =
+    record {
+      count_le_max_ranges = (c.requires.0.readable.few, (omega (arith, c.loop-w.invariant.0.1), omega (arith, c.loop-w.invariant.0.0.room)));
+      in_window = c.loop-w.invariant.1.0;
+    }
 
 pub step_on-next-requires : goal.step_on-next-requires
-step_on-next-requires c = ((c.requires.0.readable.few, omega (arith, c.loop-w-test.true)), c.loop-w.invariant.1.0)
+step_on-next-requires c =
+    record { count_le_max_ranges = (c.requires.0.readable.few, omega (arith, c.loop-w-test.true)); in_window = c.loop-w.invariant.1.0 }
 
 pub overflow_sub-end : goal.overflow_sub-end
 overflow_sub-end c =

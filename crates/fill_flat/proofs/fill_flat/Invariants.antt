@@ -14,7 +14,7 @@ use Rattle.fill_flat.proofs.fill_flat.Given as goal
 abbrev pub invariant-loop-w : goal.invariant-loop-w
 invariant-loop-w l =
     (Filling (row_of (fallback_row l.fallback) (slots_got 0 l.count l.ranges) l.references) (boundaries_of (slots_got 0 l.count l.ranges)) l.initial.seen
-    (record { l.index = l.initial.index; l.pool = l.initial.pool }) l.seen (record { l.index = l.index; l.pool = l.pool }) l.w.at l.rows l.at
+    (record { index = l.initial.index; pool = l.initial.pool }) l.seen (record { index = l.index; pool = l.pool }) l.w.at l.rows l.at
     × (l.at ≤ max_row_places))
     × (InWindow l.ranges l.near l.count l.w × (length l.near ≡ length l.initial.near))
 

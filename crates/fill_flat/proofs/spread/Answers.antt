@@ -1,4 +1,3 @@
-use Prim.Native.Nat.{◌-◌}
 use native.Mathlib.Omega.{arith}
 use lib.ListN.{length}
 use Rattle.fill_flat.proofs.Runs.{smaller_most, spread_none, spread_more, spread_done}

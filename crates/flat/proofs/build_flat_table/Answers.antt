@@ -19,7 +19,7 @@ pub returns-then-not-reading_holds : goal.returns-then-not-reading_holds
 returns-then-not-reading_holds c =
     let a = c.args in
     let t = tables_of a.names.now a.categories.now a.definitions.now a.ranges.now a.references.now in
-    let lent : FlatRoom = record { index = a.flat_index_lem.now; pool = a.flat_pool_lem.now } in
+    let lent : FlatRoom = record { index = a.flat_index.now; pool = a.flat_pool.now } in
     builds_apart t a.counts lent (untrue (holds t a.counts) (clash _ (holds t a.counts) c.reading_holds.ensures c.if-not-reading_holds.taken))
 
 pub fallback_of-fallback-requires : goal.fallback_of-fallback-requires
@@ -44,7 +44,7 @@ pub returns : goal.returns
 returns c =
     let a = c.args in
     let t = tables_of a.names.now a.categories.now a.definitions.now a.ranges.now a.references.now in
-    let lent : FlatRoom = record { index = a.flat_index_lem.now; pool = a.flat_pool_lem.now } in
+    let lent : FlatRoom = record { index = a.flat_index.now; pool = a.flat_pool.now } in
     let h = c.reading_holds.ensures in
     let u = c.if-not-reading_holds.left in
     let d = c.fallback_of-fallback.ensures in

@@ -1,4 +1,3 @@
-use Prim.Native.Nat.{◌-◌}
 use native.Mathlib.Omega.{arith}
 use mathlib.Core.Path.{◌≡◌, sym}
 use Rattle.paper.specs.Pack.Fields.{definition_fields}
@@ -12,7 +11,7 @@ unfolding pieces
 loop-i-init c = (omega arith, puts_nothing _ _ _ c.requires.room)
 
 pub put_definition-w-requires : goal.put_definition-w-requires
-put_definition-w-requires c = (omega arith, record { few = omega arith; room = omega arith })
+put_definition-w-requires c = record { definition_size_in_bounds = omega arith; room = record { few = omega arith; room = omega arith } }
 
 pub loop-i-preserved : goal.loop-i-preserved
 loop-i-preserved c = (

@@ -1,4 +1,3 @@
-use Prim.Native.Nat.{◌-◌}
 use native.Mathlib.Omega.{arith}
 use mathlib.Core.Path.{◌≡◌, refl}
 use Rattle.paper.specs.Tables.Layout.{pieces, split}
@@ -17,7 +16,7 @@ put_name-w-requires c =
     c.requires.n_in_bounds
     c.get_u16-len.ensures
     c.loop-i.invariant.1.0 in
-    (omega arith, record { few = omega arith; room = omega arith })
+    record { n_in_bounds = omega arith; room = record { few = omega arith; room = omega arith } }
 
 pub overflow_add-at : goal.overflow_add-at
 overflow_add-at c =

@@ -1,4 +1,3 @@
-use Prim.Native.Nat.{◌-◌}
 use native.Mathlib.Omega.{arith}
 use mathlib.Core.Path.{◌≡◌, refl}
 use Rattle.paper.specs.Tables.Layout.{pieces, ranging}
@@ -25,7 +24,7 @@ put_references-w-requires c =
     c.requires.n_in_bounds
     c.get_u16-count.ensures
     c.loop-i.invariant.1.0 in
-    (omega arith, record { few = omega arith; room = omega arith })
+    record { n_in_bounds = omega arith; room = record { few = omega arith; room = omega arith } }
 
 pub overflow_add-used : goal.overflow_add-used
 overflow_add-used c =
