@@ -1,10 +1,8 @@
 -- `pack::read_pack` meets its contract. Assumes nothing.
-use Prim.Native.Nat.{ℕ, ◌*◌}
-use mathlib.Core.List.{List}
+use Prim.Native.Nat.{◌*◌}
 use Rattle.paper.specs.Sizes.{max_name_bytes, max_categories, max_category_lines, max_ranges, max_references}
 use Rattle.paper.specs.Computed.ReadPack.{read_pack}
-use Rattle.paper.specs.Tables.Layout.{Tables, name_slot_size, definition_size, range_slot_size, reference_size}
-use Rattle.paper.specs.Tables.Reader.{has_room}
+use Rattle.paper.specs.Tables.Layout.{name_slot_size, definition_size, range_slot_size, reference_size}
 use Rattle.room.proofs.Five.{lacking, having, part_long}
 use Rattle.room.proofs.Sizes.{roomy, parts_sized}
 use Rattle.room.proofs.Whole.{short_room, reads}
@@ -12,15 +10,9 @@ use Rattle.pack.proofs.Answer.{refusals_clear}
 use Rattle.pack.proofs.Kept.{part_kept}
 use Rattle.pack.proofs.read_pack.Goals as goal
 
--- the tables that are lent
-abbrev lent : (names categories definitions ranges references : List ℕ) → Tables
-lent names categories definitions ranges references =
-    record { names = names; categories = categories; definitions = definitions; ranges = ranges; references = references }
-
 pub returns-then-not-has_room : goal.returns-then-not-has_room
 returns-then-not-has_room c =
-    let a = c.args in
-    short_room (read_pack c.args.pack.now) (lent a.names.now a.categories.now a.definitions.now a.ranges.now a.references.now) (lacking (has_room (lent a.names.now a.categories.now a.definitions.now a.ranges.now a.references.now)) c.has_room.ensures c.if-not-has_room.true-raw)
+    short_room (read_pack c.args.pack.now) _ (lacking _ c.has_room.ensures c.if-not-has_room.true-raw)
 
 pub slice_bounds-read_into-end : goal.slice_bounds-read_into-end
 slice_bounds-read_into-end c = (roomy _ c.has_room.ensures c.if-not-has_room.false-raw).first
@@ -54,8 +46,7 @@ slice_bounds-read_into-end-10 c = part_long (reference_size * max_references) c.
 
 pub read_into-requires : goal.read_into-requires
 read_into-requires c =
-    let a = c.args in
-    parts_sized (lent a.names.now a.categories.now a.definitions.now a.ranges.now a.references.now) (roomy _ c.has_room.ensures c.if-not-has_room.false-raw)
+    parts_sized _ (roomy _ c.has_room.ensures c.if-not-has_room.false-raw)
 
 pub shape_of-names : goal.shape_of-names
 shape_of-names c = part_kept max_name_bytes c.args.names.now c.read_into.new.names c.read_into.auto.names
@@ -74,9 +65,8 @@ shape_of-references c = part_kept (reference_size * max_references) c.args.refer
 
 pub returns : goal.returns
 returns c =
-    let a = c.args in
     let l = c.read_into.new in
-    reads (read_pack c.args.pack.now) (lent a.names.now a.categories.now a.definitions.now a.ranges.now a.references.now) (having (has_room (lent a.names.now a.categories.now a.definitions.now a.ranges.now a.references.now)) c.has_room.ensures c.if-not-has_room.false-raw)
+    reads (read_pack c.args.pack.now) _ (having _ c.has_room.ensures c.if-not-has_room.false-raw)
     (refusals_clear c.args.pack.now)
-    (lent l.names l.categories l.definitions l.ranges l.references)
+    (record { names = l.names; categories = l.categories; definitions = l.definitions; ranges = l.ranges; references = l.references })
     c.read_into.result c.read_into.ensures
