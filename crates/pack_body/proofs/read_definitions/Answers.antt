@@ -1,5 +1,4 @@
 use native.Mathlib.Omega.{arith}
-use Prim.Native.Nat.{◌-◌}
 use Rattle.paper.specs.Pack.Fields.{definition_width}
 use Rattle.paper.specs.Computed.ReadPack.{read_definition}
 use Rattle.paper.specs.Tables.Layout.{definition_bytes, definition_size}
