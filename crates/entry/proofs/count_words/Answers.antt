@@ -1,4 +1,3 @@
-use Prim.Native.Nat.{◌-◌}
 use native.Mathlib.Omega.{arith}
 use Rattle.entry.proofs.Words.{count_start, count_none, count_on, count_done}
 use Rattle.entry.proofs.count_words.Goals as goal

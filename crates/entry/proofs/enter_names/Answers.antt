@@ -1,4 +1,3 @@
-use Prim.Native.Nat.{◌-◌}
 use native.Mathlib.Omega.{arith}
 use mathlib.Core.Path.{◌∙◌}
 use Rattle.entry.proofs.Words.{enter_start, enter_none, enter_done, enter_room, enter_fits, enter_stops, enter_number, enter_on}

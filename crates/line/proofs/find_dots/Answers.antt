@@ -1,5 +1,4 @@
 use native.Mathlib.Omega.{arith}
-use Prim.Native.Nat.{◌-◌}
 use Rattle.line.proofs.Steps.{passed_none, passed_all, passed_last, passed_other, passed_dot, passed_found}
 use Rattle.line.proofs.find_dots.Goals as goal
 

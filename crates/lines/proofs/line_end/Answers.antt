@@ -1,4 +1,3 @@
-use Prim.Native.Nat.{◌-◌}
 use Rattle.lines.proofs.Scan.{seek_start, seek_found, seek_on, seek_end}
 use Rattle.lines.proofs.line_end.Goals as goal
 

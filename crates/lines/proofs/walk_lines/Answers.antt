@@ -1,4 +1,3 @@
-use Prim.Native.Nat.{◌-◌}
 use native.Mathlib.Omega.{arith}
 use Rattle.lines.proofs.Walking.{walk_start, walk_inside, walk_stops, walk_on, walk_ends, working, store_long, slots_long, definitions_long, ranges_long, references_long}
 use Rattle.lines.proofs.Scan.{end_inside}

@@ -1,4 +1,3 @@
-use Prim.Native.Nat.{◌-◌}
 use native.Mathlib.Omega.{arith}
 use Rattle.name.proofs.Copy.{copy_start, copy_on, copy_done}
 use Rattle.name.proofs.copy_in.Goals as goal

@@ -1,5 +1,4 @@
 use native.Mathlib.Omega.{arith}
-use Prim.Native.Nat.{◌-◌}
 use mathlib.Core.Path.{refl}
 use Rattle.scan.proofs.Scan.{skip_end, skip_within, skip_on, skip_stop, width_ascii}
 use Rattle.scan.proofs.skip_gap.Goals as goal

@@ -1,5 +1,4 @@
 use native.Mathlib.Omega.{arith}
-use Prim.Native.Nat.{◌-◌}
 use mathlib.Core.Path.{refl}
 use Rattle.scan.proofs.Scan.{word_stop_end, word_stop, word_on, width_ascii}
 use Rattle.scan.proofs.word_end.Goals as goal
