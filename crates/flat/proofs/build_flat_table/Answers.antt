@@ -2,7 +2,10 @@
 -- flat table. Assumes nothing.
 use Prim.Native.Nat.{ℕ}
 use native.Mathlib.Omega.{arith}
+use mathlib.Core.Bool.{false, not}
 use mathlib.Core.List.{List}
+use mathlib.Core.Path.{◌≡◌}
+use borrow.Author.Rules.{rules}
 use Rattle.paper.specs.Computed.HandedIn.{holds}
 use Rattle.paper.specs.Tables.Layout.{Tables}
 use Rattle.table_rules.proofs.Tests.{untrue, passed, clash}
@@ -20,24 +23,24 @@ returns-then-not-reading_holds c =
     let a = c.args in
     let t = tables_of a.names.now a.categories.now a.definitions.now a.ranges.now a.references.now in
     let lent : FlatRoom = record { index = a.flat_index.now; pool = a.flat_pool.now } in
-    builds_apart t a.counts lent (untrue (holds t a.counts) (clash _ (holds t a.counts) c.reading_holds.ensures c.if-not-reading_holds.taken))
+    builds_apart t a.counts lent (untrue (holds t a.counts) (clash c.reading_holds.result (holds t a.counts) c.reading_holds.ensures (search rules)))
 
 pub fallback_of-fallback-requires : goal.fallback_of-fallback-requires
 fallback_of-fallback-requires c =
     let a = c.args in
     let t = tables_of a.names.now a.categories.now a.definitions.now a.ranges.now a.references.now in
-    few_names t a.counts (passed _ (holds t a.counts) c.reading_holds.ensures c.if-not-reading_holds.left)
+    few_names t a.counts (passed c.reading_holds.result (holds t a.counts) c.reading_holds.ensures (search rules))
 
 pub build_flat-requires : goal.build_flat-requires
 build_flat-requires c =
     let a = c.args in
     let t = tables_of a.names.now a.categories.now a.definitions.now a.ranges.now a.references.now in
-    let b = of_bytes t (λ i. omega (arith, c.shared_slice_known-2-1.given i))
-    (λ i. omega (arith, c.shared_slice_known-3-1.given i))
-    (λ i. omega (arith, c.shared_slice_known-4-1.given i))
-    (λ i. omega (arith, c.shared_slice_known-5-1.given i)) in
+    let b = of_bytes t (λ i. omega (arith, c.type_inv.categories i))
+    (λ i. omega (arith, c.type_inv.definitions i))
+    (λ i. omega (arith, c.type_inv.ranges i))
+    (λ i. omega (arith, c.type_inv.references i)) in
     let d = c.fallback_of-fallback in
-    buildable t a.counts (passed _ (holds t a.counts) c.reading_holds.ensures c.if-not-reading_holds.left) _ d.ensures b
+    buildable t a.counts (passed c.reading_holds.result (holds t a.counts) c.reading_holds.ensures (search rules)) _ d.ensures b
     (one_fallback d.result)
 
 pub returns : goal.returns
@@ -46,6 +49,6 @@ returns c =
     let t = tables_of a.names.now a.categories.now a.definitions.now a.ranges.now a.references.now in
     let lent : FlatRoom = record { index = a.flat_index.now; pool = a.flat_pool.now } in
     let h = c.reading_holds.ensures in
-    let u = c.if-not-reading_holds.left in
+    let u : not c.reading_holds.result ≡ false = search rules in
     let d = c.fallback_of-fallback.ensures in
     builds_flat t a.counts (passed _ (holds t a.counts) h u) _ d lent _ _ c.build_flat.ensures
