@@ -21,7 +21,6 @@ use Rattle.paper.proofs.Unk.Line.{unk_line}
 use Rattle.unk_line.specs.declared.UnkEntry.{UnkEntry}
 use Rattle.unk_line.specs.Line.{SaysLine, SaysEntry, entry_at, joined_fields, stored_fields}
 use Rattle.unk_line.specs.declared.UnkLine.{UnkLine}
-use Rattle.unk_line.specs.declared.UnkLine.TheVariants as line
 use Rattle.unk_line.proofs.Joined.{joined_long}
 use Rattle.unk_enter.specs.declared.UnkCounts.{UnkCounts}
 use Rattle.unk_enter.specs.Fields.{entry_size, offset_size, word_bytes}

@@ -1,4 +1,3 @@
-use Prim.Native.Nat.{◌-◌}
 use native.Mathlib.Omega.{arith}
 use Rattle.unk.proofs.Walking.{walk_start, working, line_inside, stop_inside, walk_asked, walk_stops, walk_on, walk_ends}
 use Rattle.unk_enter.proofs.Entered.{entries_long, offsets_long, details_long}

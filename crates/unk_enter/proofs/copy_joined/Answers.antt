@@ -1,4 +1,3 @@
-use Prim.Native.Nat.{◌-◌}
 use native.Mathlib.Omega.{arith}
 use Rattle.unk_enter.proofs.Copy.{copy_start, copy_on, copy_done}
 use Rattle.unk_enter.proofs.copy_joined.Goals as goal

@@ -1,4 +1,3 @@
-use Prim.Native.Nat.{◌-◌}
 use native.Mathlib.Omega.{arith}
 use Rattle.unk_line.proofs.Scan.{seek_start, seek_found, seek_on, seek_end, whole_part}
 use Rattle.unk_line.proofs.find_byte.Goals as goal
