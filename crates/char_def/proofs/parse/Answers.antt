@@ -1,6 +1,8 @@
 -- `char_def::parse` meets its contract: each way through is an answer of `Whole`; the parts that are lent have the sizes.
 -- Assumes nothing.
 use Prim.Native.Nat.{◌*◌}
+use mathlib.Core.Path.{ap}
+use mathlib.Core.Bool.{not}
 use native.Mathlib.Omega.{arith}
 use Rattle.paper.specs.Tables.Layout.{Tables, name_slot_size, definition_size, range_slot_size, reference_size}
 use Rattle.paper.specs.Tables.Reader.{has_room}
@@ -16,92 +18,92 @@ pub returns-then-not-has_room : goal.returns-then-not-has_room
 returns-then-not-has_room c =
     let a = c.args in
     let t : Tables = record { names = a.names.now; categories = a.categories.now; definitions = a.definitions.now; ranges = a.ranges.now; references = a.references.now } in
-    short_room (read_text a.text.now) t (lacking (has_room t) (c.has_room.ensures) (c.if-not-has_room.taken))
+    short_room (read_text a.text.now) t (lacking (has_room t) (c.has_room.ensures) (ap not c.if-not-has_room.true))
 
 pub returns-then-text-gt-MAX_TEXT_BYTES : goal.returns-then-text-gt-MAX_TEXT_BYTES
 returns-then-text-gt-MAX_TEXT_BYTES c =
     let a = c.args in
     let t : Tables = record { names = a.names.now; categories = a.categories.now; definitions = a.definitions.now; ranges = a.ranges.now; references = a.references.now } in
-    long_text a.text.now t (having (has_room t) (c.has_room.ensures) (c.if-not-has_room.left)) (omega arith)
+    long_text a.text.now t (having (has_room t) (c.has_room.ensures) (ap not c.if-not-has_room.false)) (omega arith)
 
 pub returns-then-prefix-text : goal.returns-then-prefix-text
 returns-then-prefix-text c =
     let a = c.args in
     let t : Tables = record { names = a.names.now; categories = a.categories.now; definitions = a.definitions.now; ranges = a.ranges.now; references = a.references.now } in
-    ill_text a.text.now t (having (has_room t) (c.has_room.ensures) (c.if-not-has_room.left)) (omega arith) (c.valid_prefix-prefix.result) (c.valid_prefix-prefix.ensures) (omega arith)
+    ill_text a.text.now t (having (has_room t) (c.has_room.ensures) (ap not c.if-not-has_room.false)) (omega arith) (c.valid_prefix-prefix.result) (c.valid_prefix-prefix.ensures) (omega arith)
 
 pub slice_bounds-read_lines-end : goal.slice_bounds-read_lines-end
 slice_bounds-read_lines-end c =
     let a = c.args in
     let t : Tables = record { names = a.names.now; categories = a.categories.now; definitions = a.definitions.now; ranges = a.ranges.now; references = a.references.now } in
-    (roomy t (c.has_room.ensures) (c.if-not-has_room.left)).first
+    (roomy t (c.has_room.ensures) (ap not c.if-not-has_room.false)).first
 
 pub slice_bounds-read_lines-end-2 : goal.slice_bounds-read_lines-end-2
 slice_bounds-read_lines-end-2 c =
     let a = c.args in
     let t : Tables = record { names = a.names.now; categories = a.categories.now; definitions = a.definitions.now; ranges = a.ranges.now; references = a.references.now } in
-    part_long max_name_bytes t.names (roomy t (c.has_room.ensures) (c.if-not-has_room.left)).first
+    part_long max_name_bytes t.names (roomy t (c.has_room.ensures) (ap not c.if-not-has_room.false)).first
 
 pub slice_bounds-read_lines-end-3 : goal.slice_bounds-read_lines-end-3
 slice_bounds-read_lines-end-3 c =
     let a = c.args in
     let t : Tables = record { names = a.names.now; categories = a.categories.now; definitions = a.definitions.now; ranges = a.ranges.now; references = a.references.now } in
-    (roomy t (c.has_room.ensures) (c.if-not-has_room.left)).second
+    (roomy t (c.has_room.ensures) (ap not c.if-not-has_room.false)).second
 
 pub slice_bounds-read_lines-end-4 : goal.slice_bounds-read_lines-end-4
 slice_bounds-read_lines-end-4 c =
     let a = c.args in
     let t : Tables = record { names = a.names.now; categories = a.categories.now; definitions = a.definitions.now; ranges = a.ranges.now; references = a.references.now } in
-    part_long (name_slot_size * max_categories) t.categories (roomy t (c.has_room.ensures) (c.if-not-has_room.left)).second
+    part_long (name_slot_size * max_categories) t.categories (roomy t (c.has_room.ensures) (ap not c.if-not-has_room.false)).second
 
 pub slice_bounds-read_lines-end-5 : goal.slice_bounds-read_lines-end-5
 slice_bounds-read_lines-end-5 c =
     let a = c.args in
     let t : Tables = record { names = a.names.now; categories = a.categories.now; definitions = a.definitions.now; ranges = a.ranges.now; references = a.references.now } in
-    (roomy t (c.has_room.ensures) (c.if-not-has_room.left)).third
+    (roomy t (c.has_room.ensures) (ap not c.if-not-has_room.false)).third
 
 pub slice_bounds-read_lines-end-6 : goal.slice_bounds-read_lines-end-6
 slice_bounds-read_lines-end-6 c =
     let a = c.args in
     let t : Tables = record { names = a.names.now; categories = a.categories.now; definitions = a.definitions.now; ranges = a.ranges.now; references = a.references.now } in
-    part_long (definition_size * max_category_lines) t.definitions (roomy t (c.has_room.ensures) (c.if-not-has_room.left)).third
+    part_long (definition_size * max_category_lines) t.definitions (roomy t (c.has_room.ensures) (ap not c.if-not-has_room.false)).third
 
 pub slice_bounds-read_lines-end-7 : goal.slice_bounds-read_lines-end-7
 slice_bounds-read_lines-end-7 c =
     let a = c.args in
     let t : Tables = record { names = a.names.now; categories = a.categories.now; definitions = a.definitions.now; ranges = a.ranges.now; references = a.references.now } in
-    (roomy t (c.has_room.ensures) (c.if-not-has_room.left)).fourth
+    (roomy t (c.has_room.ensures) (ap not c.if-not-has_room.false)).fourth
 
 pub slice_bounds-read_lines-end-8 : goal.slice_bounds-read_lines-end-8
 slice_bounds-read_lines-end-8 c =
     let a = c.args in
     let t : Tables = record { names = a.names.now; categories = a.categories.now; definitions = a.definitions.now; ranges = a.ranges.now; references = a.references.now } in
-    part_long (range_slot_size * max_ranges) t.ranges (roomy t (c.has_room.ensures) (c.if-not-has_room.left)).fourth
+    part_long (range_slot_size * max_ranges) t.ranges (roomy t (c.has_room.ensures) (ap not c.if-not-has_room.false)).fourth
 
 pub slice_bounds-read_lines-end-9 : goal.slice_bounds-read_lines-end-9
 slice_bounds-read_lines-end-9 c =
     let a = c.args in
     let t : Tables = record { names = a.names.now; categories = a.categories.now; definitions = a.definitions.now; ranges = a.ranges.now; references = a.references.now } in
-    (roomy t (c.has_room.ensures) (c.if-not-has_room.left)).fifth
+    (roomy t (c.has_room.ensures) (ap not c.if-not-has_room.false)).fifth
 
 pub slice_bounds-read_lines-end-10 : goal.slice_bounds-read_lines-end-10
 slice_bounds-read_lines-end-10 c =
     let a = c.args in
     let t : Tables = record { names = a.names.now; categories = a.categories.now; definitions = a.definitions.now; ranges = a.ranges.now; references = a.references.now } in
-    part_long (reference_size * max_references) t.references (roomy t (c.has_room.ensures) (c.if-not-has_room.left)).fifth
+    part_long (reference_size * max_references) t.references (roomy t (c.has_room.ensures) (ap not c.if-not-has_room.false)).fifth
 
 pub read_lines-requires : goal.read_lines-requires
 read_lines-requires c =
     let a = c.args in
     let t : Tables = record { names = a.names.now; categories = a.categories.now; definitions = a.definitions.now; ranges = a.ranges.now; references = a.references.now } in
-    record { text_len_bound = c.if-text-gt-MAX_TEXT_BYTES.left; sized = parts_sized t (roomy t (c.has_room.ensures) (c.if-not-has_room.left)) }
+    record { text_len_bound = c.if-text-gt-MAX_TEXT_BYTES.false; sized = parts_sized t (roomy t (c.has_room.ensures) (ap not c.if-not-has_room.false)) }
 
 pub returns : goal.returns
 returns c =
     let a = c.args in
     let t : Tables = record { names = a.names.now; categories = a.categories.now; definitions = a.definitions.now; ranges = a.ranges.now; references = a.references.now } in
     let l = c.read_lines.new in
-    lines_parsed a.text.now t (having (has_room t) (c.has_room.ensures) (c.if-not-has_room.left)) (omega arith)
+    lines_parsed a.text.now t (having (has_room t) (c.has_room.ensures) (ap not c.if-not-has_room.false)) (omega arith)
     (whole_formed a.text.now (c.valid_prefix-prefix.result) (c.valid_prefix-prefix.ensures) (omega arith))
     (record { names = l.names; categories = l.categories; definitions = l.definitions; ranges = l.ranges; references = l.references })
     _ (c.read_lines.ensures)
