@@ -10,17 +10,17 @@ pub returns-then-row_lengths-row : goal.returns-then-row_lengths-row
 returns-then-row_lengths-row c = length_missing _ _ _ _ (omega arith) (omega arith)
 
 pub overflow_cast-start : goal.overflow_cast-start
-overflow_cast-start c = omega (arith, c.shared_slice_known-1.given c.args.row)
+overflow_cast-start c = omega (arith, c.type_inv.row_starts c.args.row)
 
 pub overflow_cast-len : goal.overflow_cast-len
-overflow_cast-len c = omega (arith, c.shared_slice_known-2-1.given c.args.row)
+overflow_cast-len c = omega (arith, c.type_inv.row_lengths c.args.row)
 
 pub overflow_add-end : goal.overflow_add-end
 overflow_add-end c =
     omega (
       arith,
-      c.shared_slice_known-1.given c.args.row,
-      c.shared_slice_known-2-1.given
+      c.type_inv.row_starts c.args.row,
+      c.type_inv.row_lengths
           c.args.row,
     )
 
