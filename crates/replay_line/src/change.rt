@@ -225,7 +225,7 @@ pub fn table<'a>(
 
 // As many places as may be lent: no more than the room has.
 pub fn least16(room: &[u16], n: usize) -> usize
-    ensures { CountsIn result room.old }
+    ensures { CountsIn result room.now }
 {
     if room.len() < n {
         return room.len();
