@@ -1,4 +1,3 @@
-use Rattle.std.proofs.Common.{◌≡◌, ℕ, ◌+◌, ◌-◌, ◌*◌, ◌<◌, ◌≤◌, length}
 use Rattle.replay_lookup.proofs.lookups.noted.Given as goal
 
 abbrev pub decreases-loop-left : goal.decreases-loop-left

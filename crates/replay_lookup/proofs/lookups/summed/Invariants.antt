@@ -1,4 +1,4 @@
-use Rattle.std.proofs.Common.{◌-◌, ◌≡◌, ℕ, ◌+◌, ◌*◌, ◌<◌, ◌≤◌, length}
+use Rattle.std.proofs.Common.{◌-◌}
 use Rattle.replay_lookup.proofs.lookups.summed.Given as goal
 
 abbrev pub decreases-loop-code : goal.decreases-loop-code

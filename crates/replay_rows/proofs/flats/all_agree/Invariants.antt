@@ -1,4 +1,4 @@
-use Rattle.std.proofs.Common.{◌-◌, ◌≡◌, ℕ, ◌+◌, ◌*◌, ◌<◌, ◌≤◌, length}
+use Rattle.std.proofs.Common.{◌-◌}
 use Rattle.replay_rows.proofs.flats.all_agree.Given as goal
 
 abbrev pub decreases-loop-k : goal.decreases-loop-k

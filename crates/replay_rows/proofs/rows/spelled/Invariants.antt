@@ -1,4 +1,4 @@
-use Rattle.std.proofs.Common.{length, ◌-◌, ◌≡◌, ℕ, ◌+◌, ◌*◌, ◌<◌, ◌≤◌}
+use Rattle.std.proofs.Common.{length, ◌-◌}
 use Rattle.replay_rows.proofs.rows.spelled.Given as goal
 
 abbrev pub decreases-loop-i : goal.decreases-loop-i

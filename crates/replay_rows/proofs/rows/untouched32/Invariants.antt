@@ -1,4 +1,4 @@
-use Rattle.std.proofs.Common.{length, ◌-◌, ◌≡◌, ℕ, ◌+◌, ◌*◌, ◌<◌, ◌≤◌}
+use Rattle.std.proofs.Common.{length, ◌-◌}
 use Rattle.replay_rows.proofs.rows.untouched32.Given as goal
 
 abbrev pub decreases-loop-at : goal.decreases-loop-at
