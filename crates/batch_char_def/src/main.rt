@@ -6,7 +6,7 @@
 use batch::{FAULT, FILL, GUARD, Record, TEXT_ROOM, few, is_kept, put_part, put_u16};
 use paper::{Counts, Outcome};
 use std::io;
-use std::io::{BufReader, BufWriter, Read, Write};
+use std::io::{Read, Write};
 
 const NAMES: usize = 16384 + GUARD;
 
@@ -180,7 +180,7 @@ fn answer_all<R: Read, W: Write>(from: &mut R, out: &mut W, room: &mut [u8]) -> 
 
 fn main(rt: HostRuntime) -> io::Result<()> {
     let mut space = [0u8; TEXT_ROOM];
-    let mut from = BufReader::new(rt.alloc(), rt.reader())?;
-    let mut out = BufWriter::new(rt.alloc(), io::writer(&rt))?;
+    let mut from = rt.reader();
+    let mut out = io::writer(&rt);
     answer_all(&mut from, &mut out, &mut space)
 }

@@ -12,7 +12,7 @@ use batch::{Record, TEXT_ROOM};
 use paper::{Counts, Outcome};
 use rooms::{FILL_U16, FILL_U32, least_u16, least_u32};
 use std::io;
-use std::io::{BufReader, BufWriter, Read, Write};
+use std::io::{Read, Write};
 use tables::Tables;
 
 const NAMES: usize = 16384;
@@ -262,7 +262,7 @@ fn answer_all<R: Read, W: Write>(
 fn main(rt: HostRuntime) -> io::Result<()> {
     let mut text_room = [0u8; TEXT_ROOM];
     let mut code_room = [0u8; CODE_ROOM];
-    let mut from = BufReader::new(rt.alloc(), rt.reader())?;
-    let mut stream = BufWriter::new(rt.alloc(), io::writer(&rt))?;
+    let mut from = rt.reader();
+    let mut stream = io::writer(&rt);
     answer_all(&mut from, &mut stream, &mut text_room, &mut code_room)
 }

@@ -8,7 +8,7 @@ mod words;
 use batch::{FAULT, FILL, GUARD, Record, TEXT_ROOM, few, is_kept, put_part, put_u16};
 use paper::{Counts, Outcome};
 use std::io;
-use std::io::{BufReader, BufWriter, Read, Write};
+use std::io::{Read, Write};
 use unk::UnkOutcome;
 use unk_enter::UnkCounts;
 
@@ -351,8 +351,8 @@ fn main(rt: HostRuntime) -> io::Result<()> {
     let mut char_room = [0u8; TEXT_ROOM];
     let mut room = [0u8; TEXT_ROOM];
     let mut number_room = [0u8; NUMBER_ROOM];
-    let mut from = BufReader::new(rt.alloc(), rt.reader())?;
-    let mut out = BufWriter::new(rt.alloc(), io::writer(&rt))?;
+    let mut from = rt.reader();
+    let mut out = io::writer(&rt);
     answer_all(
         &mut from,
         &mut out,

@@ -5,7 +5,6 @@
 use paper::Outcome;
 use replay::items::Reader;
 use replay_line::{change, tally};
-use std::alloc::{AllocError, Global};
 use std::io;
 
 // The list is read in two halves, and the first one ends with a line.
@@ -104,16 +103,12 @@ fn replay_all(rt: &impl Print, list: &[u8], before: u64, tally: &mut [u64]) -> i
     Ok(number)
 }
 
-fn half_room(alloc: Global) -> Result<Vec<u8>, AllocError> {
-    vec![in alloc; 0; HALF]
+fn half_room() -> [u8; HALF] {
+    [0; HALF]
 }
 
-fn replay_half(
-    rt: &(impl Print + Input + AllocGlobal),
-    before: u64,
-    tally: &mut [u64],
-) -> io::Result<u64> {
-    let mut room = half_room(rt.alloc())?;
+fn replay_half(rt: &(impl Print + Input), before: u64, tally: &mut [u64]) -> io::Result<u64> {
+    let mut room = half_room();
     let n = replay::input::read_full(&mut rt.reader(), &mut room)?;
     replay_all(rt, &room[..n], before, tally)
 }

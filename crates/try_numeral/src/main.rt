@@ -151,7 +151,7 @@ fn replay_all(rt: &impl Print, list: &[u8]) -> io::Result<Tally> {
 }
 
 fn main(rt: HostRuntime) -> io::Result<()> {
-    let mut room = vec![in rt.alloc(); 0u8; LIST_ROOM]?;
+    let mut room = [0u8; LIST_ROOM];
     let n = replay::input::read_full(&mut rt.reader(), &mut room)?;
     let t = replay_all(&rt, &room[..n])?;
     say(&rt, "u ", t.u, " agreed")?;

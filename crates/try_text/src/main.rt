@@ -184,7 +184,7 @@ fn replay_all(rt: &impl Print, list: &[u8]) -> io::Result<Tally> {
 }
 
 fn main(rt: HostRuntime) -> io::Result<()> {
-    let mut room = vec![in rt.alloc(); 0u8; 131072]?;
+    let mut room = [0u8; 131072];
     let n = replay::input::read_full(&mut rt.reader(), &mut room)?;
     let t = replay_all(&rt, &room[..n])?;
     println!(rt; "{} agreed, {} differed", t.agreed, t.differ)
