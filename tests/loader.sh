@@ -11,7 +11,7 @@ compiler=cc
 run=
 if [ "$(uname -m)" != x86_64 ]; then
     compiler=x86_64-linux-gnu-gcc
-    command -v "$compiler" qemu-x86_64 >/dev/null ||
+    { command -v "$compiler" && command -v qemu-x86_64; } >/dev/null ||
         { apt-get update -qq && apt-get install -y -qq gcc-x86-64-linux-gnu libc6-dev-amd64-cross qemu-user >/dev/null; } || exit 2
     run='qemu-x86_64 -L /usr/x86_64-linux-gnu'
 fi
