@@ -276,8 +276,12 @@ fn replay_all(rt: &impl Print, list: &[u8]) -> io::Result<Tally> {
     Ok(t)
 }
 
+fn list_room() -> [u8; LIST_ROOM] {
+    [0; LIST_ROOM]
+}
+
 fn main(rt: HostRuntime) -> io::Result<()> {
-    let mut room = [0u8; LIST_ROOM];
+    let mut room = list_room();
     let n = replay::input::read_full(&mut rt.reader(), &mut room)?;
     let t = replay_all(&rt, &room[..n])?;
     replay::tally::say(&rt, t)
