@@ -7,41 +7,25 @@ use mathlib.Core.List.{List, ◌∷◌}
 use lib.ListN.{take, drop, get_or}
 use Rattle.paper.specs.Refusals.{range_parts, bound_unreadable}
 use Rattle.paper.specs.CharDef.Line.{begins0x}
-use Rattle.paper.specs.Computed.ReadText.{Found, parts, bound_of, from_bounds, from_parts, range_of, category_of}
+use Rattle.paper.specs.Computed.ReadText.{Found, BoundFound, bound_is, no_bound, parts, bound_of, from_bounds, from_parts, range_of, category_of}
 use Rattle.paper.proofs.Lists.Parts.{nothing, uncons}
-use Rattle.numeral.specs.declared.Bound.{Bound}
-use Rattle.numeral.specs.declared.Bound.TheVariants.{Code, NoBound}
-use Rattle.numeral.specs.Said.{said_bound}
 use Rattle.scan.specs.declared.Part.{Part}
 use Rattle.scan.specs.Marks.{gap_width, words_bytes}
-use Rattle.scan.specs.Answer.{part, bytes_of, NextWord, Body, word_part, body_part}
+use Rattle.scan.specs.Answer.{part, bytes_of, NextWord, Body, body_part}
 use Rattle.scan.proofs.Places.{words_in, no_word, a_word, word_place, body_place}
-use Rattle.category_line.specs.declared.Line.TheVariants.{Blank}
-use Rattle.category_line.specs.declared.LineAnswer.{LineAnswer}
-use Rattle.category_line.specs.declared.LineAnswer.TheVariants.{Read, Refused}
-use Rattle.category_line.specs.Answer.{said, Placed, Says}
+use Rattle.category_line.specs.declared.Line.TheVariants.{Blank, Range}
+use Rattle.category_line.specs.Answer.{Placed, Says}
 use Rattle.category_line.proofs.Lines.{says_refused}
 use Rattle.line.specs.Bytes.{body_line_bytes, line_bytes}
-use Rattle.line.specs.Asked.{dots_bytes, Cut, Uncut, range_answer}
+use Rattle.line.specs.Asked.{dots_bytes, Cut, Uncut}
 use Rattle.line.proofs.LineBridge.{parts_some, solid_line_lem}
+use Rattle.std.specs.Prelude.{Err, Ok, Result}
+use Rattle.category_line.specs.declared.Line.{Line}
 
 -- ---- range lines
 
-pub same_range : (names : Part) {a a' b b' : Bound} → a ≡ a' → b ≡ b' → range_answer a' b' names ≡ range_answer a b names
-same_range names e f = rw (e, f)
-
-range_placed : (l : List ℕ) (a b : Bound) (q : Part) {p : Part} → p ≡ part (word_part true l q.start q.end).end q.end → Placed l q (range_answer a b p)
-range_placed l (NoBound n) b q e = tt
-range_placed l (Code x) (NoBound n) q e = tt
-range_placed l (Code x) (Code y) q e = e
-
-said_range : (l : List ℕ) (a b : Bound) (p : Part) → said l (range_answer a b p) ≡ from_bounds (said_bound a) (said_bound b) (words_bytes (gap_width true) (bytes_of l p))
-said_range l (NoBound n) b p = refl
-said_range l (Code x) (NoBound n) p = refl
-said_range l (Code x) (Code y) p = refl
-
 module _ {l : List ℕ} {start end : ℕ} {w : Part} (n : NextWord l start end true w) where
-  pub no_bounds : w.end ≤ w.start → Says l (part start end) (range_of (words_in true l start end)) (Refused bound_unreadable)
+  pub no_bounds : w.end ≤ w.start → Says l (part start end) (range_of (words_in true l start end)) (Err bound_unreadable)
   unfolding range_of
   no_bounds h = says_refused (ap range_of (sym (no_word n h)))
 
@@ -51,30 +35,43 @@ module _ {l : List ℕ} {start end : ℕ} {w : Part} (n : NextWord l start end t
     by_parts e = ap (λ q. from_parts q (words_in true l w.end end)) (sym e) ∙ ap range_of (sym (a_word n h refl))
 
     -- what two bounds make of it: the names stand behind the word
-    bounded : (a b : Bound) {r : LineAnswer} {f : Found} → r ≡ range_answer a b (part w.end end)
-        → from_bounds (said_bound a) (said_bound b) (words_in true l w.end end) ≡ f → Says l (part start end) f r
-    bounded a b e g =
-        let behind = ap (λ v. part v.end end) (word_place n) in
-        record {
-          says = ap (said l) e ∙ said_range l a b (part w.end end) ∙ g;
-          placed = subst (Placed l (part start end)) (sym e) (range_placed l a b (part start end) behind);
-        }
+    bounded : {a b : ℕ} → from_bounds (bound_is a) (bound_is b) (words_in true l w.end end) ≡ range_of (words_in true l start end)
+        → Says l (part start end) (range_of (words_in true l start end)) (Ok (Range (record { lower = a; upper = b; names = part w.end end })))
+    bounded e = record { says = e; placed = ap (λ v. part v.end end) (word_place n) }
 
-    pub one_bound : (b : Bound) {r : LineAnswer} → Uncut l w.start w.end → said_bound b ≡ bound_of (bytes_of l w)
-        → r ≡ range_answer b b (part w.end end) → Says l (part start end) (range_of (words_in true l start end)) r
-    unfolding from_parts
-    one_bound b e f g = bounded b b g (ap (λ x. from_bounds x x (words_in true l w.end end)) f ∙ by_parts e.pieces)
+    module _ (e : Uncut l w.start w.end) where
+      by_one : {b : BoundFound} → b ≡ bound_of (bytes_of l w) → from_bounds b b (words_in true l w.end end) ≡ range_of (words_in true l start end)
+      unfolding from_parts
+      by_one f = ap (λ x. from_bounds x x (words_in true l w.end end)) f ∙ by_parts e.pieces
+
+      pub bad_bound : {k : ℕ} → no_bound k ≡ bound_of (bytes_of l w) → Says l (part start end) (range_of (words_in true l start end)) (Err k)
+      bad_bound f = says_refused (by_one f)
+
+      pub one_bound : {b : ℕ} → bound_is b ≡ bound_of (bytes_of l w)
+          → Says l (part start end) (range_of (words_in true l start end)) (Ok (Range (record { lower = b; upper = b; names = part w.end end })))
+      one_bound f = bounded (by_one f)
 
     module _ {at : ℕ} (k : Cut l w.start w.end at) where
-      pub two_bounds : (a b : Bound) {r : LineAnswer} → Uncut l (at + dots_bytes) w.end
-          → said_bound a ≡ bound_of (drop w.start (take at l)) → said_bound b ≡ bound_of (drop (at + dots_bytes) (take w.end l))
-          → r ≡ range_answer a b (part w.end end) → Says l (part start end) (range_of (words_in true l start end)) r
-      unfolding from_parts
-      two_bounds a b e f g q =
-          bounded a b q
-          (ap₂ (λ x y. from_bounds x y (words_in true l w.end end)) f g ∙ by_parts (k.pieces ∙ ap (λ ps. drop w.start (take at l) ∷ ps) e.pieces))
+      module _ (e : Uncut l (at + dots_bytes) w.end) where
+        by_two : {a b : BoundFound} → a ≡ bound_of (drop w.start (take at l)) → b ≡ bound_of (drop (at + dots_bytes) (take w.end l))
+            → from_bounds a b (words_in true l w.end end) ≡ range_of (words_in true l start end)
+        unfolding from_parts
+        by_two f g =
+            ap₂ (λ x y. from_bounds x y (words_in true l w.end end)) f g ∙ by_parts (k.pieces ∙ ap (λ ps. drop w.start (take at l) ∷ ps) e.pieces)
 
-      pub more_bounds : {m : ℕ} → Cut l (at + dots_bytes) w.end m → Says l (part start end) (range_of (words_in true l start end)) (Refused range_parts)
+        pub bad_lower : {m : ℕ} → no_bound m ≡ bound_of (drop w.start (take at l)) → Says l (part start end) (range_of (words_in true l start end)) (Err m)
+        bad_lower f = says_refused (by_two f refl)
+
+        module _ {a : ℕ} (f : bound_is a ≡ bound_of (drop w.start (take at l))) where
+          pub bad_upper : {m : ℕ} → no_bound m ≡ bound_of (drop (at + dots_bytes) (take w.end l))
+              → Says l (part start end) (range_of (words_in true l start end)) (Err m)
+          bad_upper g = says_refused (by_two f g)
+
+          pub two_bounds : {b : ℕ} → bound_is b ≡ bound_of (drop (at + dots_bytes) (take w.end l))
+              → Says l (part start end) (range_of (words_in true l start end)) (Ok (Range (record { lower = a; upper = b; names = part w.end end })))
+          two_bounds g = bounded (by_two f g)
+
+      pub more_bounds : {m : ℕ} → Cut l (at + dots_bytes) w.end m → Says l (part start end) (range_of (words_in true l start end)) (Err range_parts)
       unfolding from_parts
       more_bounds {m} j =
           let (x, r, e) = parts_some (drop (m + dots_bytes) (take w.end l)) in
@@ -84,11 +81,11 @@ module _ {l : List ℕ} {start end : ℕ} {w : Part} (n : NextWord l start end t
 -- ---- the line
 
 module _ {l : List ℕ} {start end : ℕ} {b : Part} (n : Body l start end b) where
-  pub says_blank : b.end ≤ b.start → Says l (body_part l start end) (line_bytes (drop start (take end l))) (Read Blank)
+  pub says_blank : b.end ≤ b.start → Says l (body_part l start end) (line_bytes (drop start (take end l))) (Ok Blank)
   unfolding line_bytes body_line_bytes
   says_blank h = record { says = ap body_line_bytes (sym (sym n.bytes ∙ nothing l b.start b.end h)); placed = tt }
 
-  here : {f : Found} {r : LineAnswer} → Says l (part b.start b.end) f r → f ≡ line_bytes (drop start (take end l))
+  here : {f : Found} {r : Result Line ℕ} → Says l (part b.start b.end) f r → f ≡ line_bytes (drop start (take end l))
       → Says l (body_part l start end) (line_bytes (drop start (take end l))) r
   here {r = r} g d = record { says = g.says ∙ d; placed = subst (λ q. Placed l q r) (body_place n) g.placed }
 
@@ -101,10 +98,10 @@ module _ {l : List ℕ} {start end : ℕ} {b : Part} (n : Body l start end b) wh
         ∙ sym (solid_line_lem (bytes_of l b) (drop (b.start + 1) (take b.end l)) (get_or l b.start 0) (uncons l b.start b.end h (n.inside h)))
         ∙ ap body_line_bytes n.bytes
 
-    pub says_range : {r : LineAnswer} → x ≡ true → Says l (part b.start b.end) (range_of (words_bytes (gap_width true) (bytes_of l b))) r
+    pub says_range : {r : Result Line ℕ} → x ≡ true → Says l (part b.start b.end) (range_of (words_bytes (gap_width true) (bytes_of l b))) r
         → Says l (body_part l start end) (line_bytes (drop start (take end l))) r
     says_range f g = here g (by_body f)
 
-    pub says_category : {r : LineAnswer} → x ≡ false → Says l (part b.start b.end) (category_of (words_bytes (gap_width false) (bytes_of l b))) r
+    pub says_category : {r : Result Line ℕ} → x ≡ false → Says l (part b.start b.end) (category_of (words_bytes (gap_width false) (bytes_of l b))) r
         → Says l (body_part l start end) (line_bytes (drop start (take end l))) r
     says_category f g = here g (by_body f)

@@ -4,22 +4,24 @@ use Prim.Native.Nat.{ℕ, ◌+◌, ◌-◌, ◌≤◌, ◌<◌}
 use native.Mathlib.Omega.{arith}
 use native.Mathlib.Numerals.{add-one}
 use native.Mathlib.Decide.{dec_le}
-use mathlib.Core.Path.{subst, ◌≡◌, refl, sym, ap, ap₂, ◌∙◌}
-use mathlib.Core.Bool.{true, false, ◌&&◌}
+use mathlib.Core.Path.{◌≡◌, refl, sym, ap, ap₂, ◌∙◌}
+use mathlib.Core.Bool.{Bool, true, false, ◌&&◌}
 use mathlib.Core.List.{List, [], ◌∷◌, ◌++◌}
 use lib.Dec.{eqb}
 use lib.ListN.{length, take, drop, get_or}
 use lib.Seq.{length-take-le, take-suc, drop-append-le}
-use borrow.Author.Tests.{eq-eqb, ne_eqb}
+use borrow.Author.Tests.{eq-eqb, ne_eqb, eqb-true, eqb-false}
+use Rattle.std.specs.Cmp.Lexicographic.{pointwise}
+use Rattle.std.specs.List.{between}
+use Rattle.std.proofs.lemmas.Slice.{between_is}
+use Rattle.std.proofs.Math.Bool.{and-true}
 use Rattle.paper.specs.Lists.{push}
 use Rattle.paper.specs.Text.Scalar.{dot, digit0, letter_x}
 use Rattle.paper.specs.CharDef.Line.{begins0x}
 use Rattle.paper.specs.Computed.ReadText.{parts}
-use Rattle.paper.proofs.Lists.Facts.{push_all, push_all_first}
+use Rattle.paper.proofs.Lists.Facts.{and_false, push_all, push_all_first}
 use Rattle.paper.proofs.Lists.Parts.{nothing, uncons}
-use Rattle.line.specs.declared.DotsAt.{DotsAt}
-use Rattle.line.specs.declared.DotsAt.TheVariants.{At, Nowhere}
-use Rattle.line.specs.Asked.{Cut, Uncut, Dots}
+use Rattle.line.specs.Asked.{Cut, Uncut}
 use Rattle.line.proofs.LineBridge.{parts_off, parts_off₂}
 
 -- ---- two bytes in front
@@ -33,21 +35,20 @@ module _ (l : List ℕ) (at end : ℕ) where
       let e : at + 1 + 1 ≡ at + 2 = omega arith in
       uncons l at end (omega arith) k ∙ ap (λ s. get_or l at 0 ∷ s) (uncons l (at + 1) end h k ∙ ap (λ n. get_or l (at + 1) 0 ∷ drop n (take end l)) e)
 
-  pub begins_short : end - at < 2 → end ≤ length l → false ≡ begins0x (drop at (take end l))
-  begins_short m k = elim (dec_le end at) [
-    | yes h ↦ ap begins0x (sym (nothing l at end h))
-    | no h ↦ ap begins0x (sym (one (omega arith) m k))
-  ]
+eqb_sym : (a b : ℕ) → eqb a b ≡ eqb b a
+eqb_sym a b = go (eqb b a) refl
+  where
+    go : (x : Bool) → eqb b a ≡ x → eqb a b ≡ x
+    go true e = eq-eqb a b (sym (eqb-true b a e))
+    go false e = ne_eqb a b (λ q. eqb-false b a e (sym q))
 
-  module _ (h : at + 1 < end) (k : end ≤ length l) where
-    pub begins_no : (get_or l at 0 ≡ digit0 → ⊥) → false ≡ begins0x (drop at (take end l))
-    begins_no n = sym (ap begins0x (two h k) ∙ ap (λ x. x && eqb (get_or l (at + 1) 0) letter_x) (ne_eqb (get_or l at 0) digit0 n))
+begins : (s : List ℕ) → pointwise eqb (digit0 ∷ letter_x ∷ []) (take 2 s) ≡ begins0x s
+begins [] = refl
+begins (a ∷ []) = and_false (eqb digit0 a)
+begins (a ∷ b ∷ s) = ap₂ ◌&&◌ (eqb_sym digit0 a) (and-true (eqb letter_x b) ∙ eqb_sym letter_x b)
 
-    pub begins_no₂ : get_or l at 0 ≡ digit0 → (get_or l (at + 1) 0 ≡ letter_x → ⊥) → false ≡ begins0x (drop at (take end l))
-    begins_no₂ e n = sym (ap begins0x (two h k) ∙ ap₂ ◌&&◌ (eq-eqb (get_or l at 0) digit0 e) (ne_eqb (get_or l (at + 1) 0) letter_x n))
-
-    pub begins_yes : get_or l at 0 ≡ digit0 → get_or l (at + 1) 0 ≡ letter_x → true ≡ begins0x (drop at (take end l))
-    begins_yes e f = sym (ap begins0x (two h k) ∙ ap₂ ◌&&◌ (eq-eqb (get_or l at 0) digit0 e) (eq-eqb (get_or l (at + 1) 0) letter_x f))
+pub begins_part : (l : List ℕ) (start end : ℕ) → pointwise eqb (digit0 ∷ letter_x ∷ []) (take 2 (between start end l)) ≡ begins0x (drop start (take end l))
+begins_part l start end = begins (between start end l) ∙ ap begins0x (between_is l start end)
 
 add_two : (n : ℕ) → n + 1 + 1 ≡ n + 2
 add_two n = omega arith
@@ -75,7 +76,7 @@ module _ (l : List ℕ) (start end : ℕ) (m : end ≤ length l) where
   pub passed_none : Passed l start end start
   passed_none = sym (ap (λ s. push_all s (parts (drop start (take end l)))) (nothing l start start (omega arith)))
 
-  pub passed_all : (at : ℕ) → at ≡ end → Passed l start end at → Uncut l start end
+  passed_all : (at : ℕ) → at ≡ end → Passed l start end at → Uncut l start end
   passed_all at e p = record {
     pieces =
         p ∙ ap (λ s. push_all (drop start (take at l)) (parts s)) (nothing l at end (omega arith)) ∙ push_all_first (λ x. true) (drop start (take at l)) []
@@ -86,11 +87,18 @@ module _ (l : List ℕ) (start end : ℕ) (m : end ≤ length l) where
     step : at < end → parts (drop at (take end l)) ≡ push (get_or l at 0) (parts (drop (at + 1) (take end l))) → Passed l start end (at + 1)
     step k e = p ∙ ap (push_all (drop start (take at l))) e ∙ more l start at h (omega arith) (parts (drop (at + 1) (take end l)))
 
-    pub passed_last : at < end → end - at < 2 → Uncut l start end
+    passed_last : at < end → end - at < 2 → Uncut l start end
     passed_last k n =
         let e : at + 1 ≡ end = omega arith in
         passed_all (at + 1) e
         (step k (ap parts (one l at end k n m) ∙ ap (λ s. push (get_or l at 0) (parts s)) (sym (nothing l (at + 1) end (omega arith)))))
+
+    -- no `..` begins at the last byte
+    pub passed_end : end ≤ at + 1 → at ≤ end → Uncut l start end
+    passed_end k n = elim (dec_le end at) [
+      | yes e ↦ passed_all at (omega arith) p
+      | no e ↦ passed_last (omega arith) (omega arith)
+    ]
 
     pub passed_other : at < end → (get_or l at 0 ≡ dot → ⊥) → Passed l start end (at + 1)
     passed_other k n =
@@ -110,10 +118,3 @@ module _ (l : List ℕ) (start end : ℕ) (m : end ≤ length l) where
           p ∙ ap (λ s. push_all (drop start (take at l)) (parts s)) (two l at end k m) ∙ ap (push_all (drop start (take at l))) (rw (e, f))
           ∙ push_all_first (λ x. true) (drop start (take at l)) (parts (drop (at + 2) (take end l)));
     }
-
--- an answer of `find_dots`, by the case that it is
-pub cut : {l : List ℕ} {start end at : ℕ} {r : DotsAt} → r ≡ At at → Dots l start end r → Cut l start end at
-cut {l} {start} {end} e d = subst (Dots l start end) e d
-
-pub uncut : {l : List ℕ} {start end : ℕ} {r : DotsAt} → r ≡ Nowhere → Dots l start end r → Uncut l start end
-uncut {l} {start} {end} e d = subst (Dots l start end) e d

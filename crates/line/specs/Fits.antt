@@ -9,15 +9,14 @@ use Rattle.category_line.specs.declared.CategoryLine.{CategoryLine}
 use Rattle.category_line.specs.declared.RangeLine.{RangeLine}
 use Rattle.category_line.specs.declared.Line.{Line}
 use Rattle.category_line.specs.declared.Line.TheVariants.{Blank, Category, Range}
-use Rattle.category_line.specs.declared.LineAnswer.{LineAnswer}
-use Rattle.category_line.specs.declared.LineAnswer.TheVariants.{Read, Refused}
 use Rattle.scan.specs.Marks.{gap_width, words_bytes}
 use Rattle.scan.specs.Answer.{bytes_of, body_part}
 use Rattle.category_line.specs.Answer.{Says}
 use Rattle.line.specs.Bytes.{line_bytes}
+use Rattle.std.specs.Prelude.{Err, Ok, Result}
 
 -- what `read_line` promises of the line from `start` to `end`
-abbrev pub Reads : List ℕ → ℕ → ℕ → LineAnswer → Type 0
+abbrev pub Reads : List ℕ → ℕ → ℕ → Result Line ℕ → Type 0
 Reads text start end r = Says text (body_part text start end) (line_bytes (drop start (take end text))) r
 
 -- an answer stands for the paper's line: the bytes at its places spell the names, which in a range line are the words there
@@ -29,6 +28,6 @@ pub data StandsFor (text : List ℕ) : Line → paper.Line → Type 0 where
       → StandsFor text (Range l) (paper.range l.lower l.upper names)
 
 -- the characters cs say the line that is answered; or they say none, and the number is why
-pub data AnswerFits (text cs : List ℕ) : LineAnswer → Type 0 where
-  reads : {l : Line} {line : paper.Line} → LineFits cs line → StandsFor text l line → AnswerFits text cs (Read l)
-  refuses : {n : ℕ} → Misfit cs n → AnswerFits text cs (Refused n)
+pub data AnswerFits (text cs : List ℕ) : Result Line ℕ → Type 0 where
+  reads : {l : Line} {line : paper.Line} → LineFits cs line → StandsFor text l line → AnswerFits text cs (Ok l)
+  refuses : {n : ℕ} → Misfit cs n → AnswerFits text cs (Err n)

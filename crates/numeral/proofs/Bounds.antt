@@ -1,13 +1,16 @@
 -- What stands before a bound's digits, and which codes are bounds: `0x` taken off at a place of a text, and a code by its cases.
 -- Assumes nothing.
-use Prim.Native.Nat.{ℕ, ◌+◌, ◌-◌, ◌≤◌, ◌<◌}
-use native.Mathlib.Omega.{arith}
+use Prim.Native.Nat.{ℕ, ◌≤◌, ◌<◌}
 use mathlib.Core.Path.{◌≡◌, refl, sym, ap, ◌∙◌}
 use mathlib.Core.Bool.{Bool, true, false, cond, ◌&&◌}
 use mathlib.Core.Option.{Option, none, some}
 use mathlib.Core.List.{List, [], ◌∷◌}
 use lib.Dec.{eqb}
-use lib.ListN.{length, take, drop, get_or}
+use lib.ListN.{take, drop}
+use Rattle.std.specs.Cmp.Lexicographic.{pointwise}
+use Rattle.std.proofs.Math.Bool.{and-true}
+use Rattle.std.proofs.lemmas.Bool.{false≢true}
+use Rattle.paper.proofs.Lists.Facts.{and_false}
 use borrow.Author.Tests.{ne_eqb}
 use Rattle.paper.specs.Sizes.{max_u16}
 use Rattle.paper.specs.Refusals.{bound_unreadable, bound_mark}
@@ -15,7 +18,6 @@ use Rattle.paper.specs.Text.Scalar.{digit0, letter_x}
 use Rattle.paper.specs.CharDef.Line.{stands_for}
 use Rattle.paper.specs.Computed.Numeral.{numeral}
 use Rattle.paper.specs.Computed.ReadText.{strip0x, bound_is, no_bound, checked_bound, bound_of}
-use Rattle.paper.proofs.Lists.Parts.{nothing, uncons}
 use Rattle.paper.proofs.Numbers.Read.{numeral_sound}
 use Rattle.numeral.proofs.Digits.{below, above, within}
 
@@ -32,31 +34,16 @@ strip_off₂ a b s e = go (eqb a digit0)
     go true = rw e
     go false = refl
 
-module _ (l : List ℕ) (at end : ℕ) where
-  pub strip_end : end ≤ at → strip0x (drop at (take end l)) ≡ drop at (take end l)
-  strip_end h = rw (nothing l at end h)
+pub strip_more : (s rest : List ℕ) → pointwise eqb (take 2 s) (digit0 ∷ letter_x ∷ []) ≡ true → rest ≡ drop 2 s → strip0x rest ≡ strip0x s
+strip_more [] rest h e = absurd (false≢true h)
+strip_more (a ∷ []) rest h e = absurd (false≢true (sym (and_false (eqb a digit0)) ∙ h))
+strip_more (a ∷ b ∷ s) rest h e =
+    ap strip0x e ∙ sym (ap (λ x. cond x (strip0x s) (a ∷ b ∷ s)) (ap (λ y. eqb a digit0 && y) (sym (and-true (eqb b letter_x))) ∙ h))
 
-  pub strip_last : at < end → end - at < 2 → end ≤ length l → strip0x (drop at (take end l)) ≡ drop at (take end l)
-  strip_last h m k = rw (uncons l at end h k, nothing l (at + 1) end (omega arith))
-
-  pub strip_stop : at < end → end ≤ length l → (get_or l at 0 ≡ digit0 → ⊥) → strip0x (drop at (take end l)) ≡ drop at (take end l)
-  strip_stop h k n = rw (uncons l at end h k) (strip_off (get_or l at 0) (drop (at + 1) (take end l)) (ne_eqb (get_or l at 0) digit0 n))
-
-  two : at + 1 < end → end ≤ length l → drop at (take end l) ≡ get_or l at 0 ∷ get_or l (at + 1) 0 ∷ drop (at + 2) (take end l)
-  two h k =
-      let e : at + 1 + 1 ≡ at + 2 = omega arith in
-      uncons l at end (omega arith) k
-      ∙ ap (λ s. get_or l at 0 ∷ s) (uncons l (at + 1) end h k ∙ ap (λ n. get_or l (at + 1) 0 ∷ drop n (take end l)) e)
-
-  pub strip_stop₂ : at + 1 < end → end ≤ length l → (get_or l (at + 1) 0 ≡ letter_x → ⊥)
-      → strip0x (drop at (take end l)) ≡ drop at (take end l)
-  strip_stop₂ h k n =
-      rw (two h k)
-      (strip_off₂ (get_or l at 0) (get_or l (at + 1) 0) (drop (at + 2) (take end l)) (ne_eqb (get_or l (at + 1) 0) letter_x n))
-
-  pub strip_on : at + 1 < end → end ≤ length l → get_or l at 0 ≡ digit0 → get_or l (at + 1) 0 ≡ letter_x
-      → strip0x (drop at (take end l)) ≡ strip0x (drop (at + 2) (take end l))
-  strip_on h k e f = rw (two h k, e, f)
+pub strip_none : (s : List ℕ) → pointwise eqb (take 2 s) (digit0 ∷ letter_x ∷ []) ≡ false → strip0x s ≡ s
+strip_none [] h = refl
+strip_none (a ∷ []) h = refl
+strip_none (a ∷ b ∷ s) h = ap (λ x. cond x (strip0x s) (a ∷ b ∷ s)) (ap (λ y. eqb a digit0 && y) (sym (and-true (eqb b letter_x))) ∙ h)
 
 -- ---- a code
 
@@ -90,9 +77,7 @@ no_code = refl
 pub code_small : (cs : List ℕ) (code : ℕ) → some code ≡ numeral 16 max_u16 cs → code ≤ max_u16
 code_small cs code e = (numeral_sound 16 max_u16 cs code (sym e)).fits
 
-pub bound_of_lem : (l : List ℕ) (start end stop at : ℕ) (o : Option ℕ) → take stop l ≡ take end l
-    → drop at (take stop l) ≡ strip0x (drop start (take stop l))
-    → o ≡ numeral 16 max_u16 (drop at (take stop l)) → checked_bound o ≡ bound_of (drop start (take end l))
+pub bound_of_lem : (cs number : List ℕ) (o : Option ℕ) → strip0x number ≡ strip0x cs → pointwise eqb (take 2 number) (digit0 ∷ letter_x ∷ []) ≡ false
+    → o ≡ numeral 16 max_u16 number → checked_bound o ≡ bound_of cs
 unfolding bound_of
-bound_of_lem l start end stop at o e f g =
-    ap checked_bound (g ∙ ap (numeral 16 max_u16) f) ∙ ap (λ t. checked_bound (numeral 16 max_u16 (strip0x (drop start t)))) e
+bound_of_lem cs number o e n g = ap checked_bound (g ∙ ap (numeral 16 max_u16) (sym (strip_none number n) ∙ e))

@@ -3,21 +3,30 @@
 -- Assumes nothing.
 use Prim.Native.Nat.{ℕ, ◌+◌, ◌-◌, ◌*◌, ◌≤◌, ◌<◌}
 use native.Mathlib.Omega.{arith}
+use native.Mathlib.Numerals.{add-one}
 use native.Mathlib.Nat.{mul-le-mul, le-mul_of_pos_right, le_trans}
-use mathlib.Core.Path.{◌≡◌, refl, sym, ap}
+use mathlib.Core.Path.{◌≡◌, refl, sym, ap, ◌∙◌}
 use mathlib.Core.Bool.{Bool, true, false, cond, ◌&&◌}
 use mathlib.Core.Option.{none, some}
+use mathlib.Core.Option as math
 use mathlib.Core.List.{List, [], ◌∷◌}
-use lib.Dec.{leb}
-use lib.ListN.{length, take, drop, get_or}
-use borrow.Author.Tests.{lt-ltb, le-ltb, le-leb, lt-leb, leb-true, leb-false, ne_eqb}
+use lib.Dec.{leb, eqb}
+use lib.ListN.{length, take, drop, get_or, drop_of_length-le}
+use lib.Seq.{drop-cons}
+use denote.Ref.{Bor}
+use Rattle.std.specs.Cmp.Lexicographic.{pointwise}
+use Rattle.std.specs.Option.{MatchOption, IsSomeAnd, unwrap_or}
+use Rattle.std.specs.Prelude.{Option, Some, None}
+use Rattle.std.proofs.Math.Bool.{and-true}
+use Rattle.std.proofs.lemmas.Bool.{false≢true}
+use borrow.Author.Tests.{lt-ltb, le-ltb, le-leb, lt-leb, leb-true, leb-false}
 use Rattle.paper.specs.Sizes.{max_u32}
 use Rattle.paper.specs.Lists.{all}
 use Rattle.paper.specs.Text.Scalar.{between, plus_sign, minus_sign}
-use Rattle.paper.specs.Numbers.Numeral.{digit_of, is_digit, value_after}
-use Rattle.paper.specs.Computed.Numeral.{spelled_by, numeral, as_neg, as_pos, signed_numeral}
-use Rattle.paper.proofs.Lists.Parts.{nothing, uncons, clamp}
-use Rattle.numeral.specs.Asked.{Least}
+use Rattle.paper.specs.Numbers.Numeral.{digit_of, is_digit, value_after, Integer}
+use Rattle.paper.specs.Computed.Numeral.{drop_plus, spelled_by, numeral, as_neg, as_pos, signed_numeral}
+use Rattle.numeral.specs.declared.Signed.{Signed}
+use Rattle.numeral.specs.Said.{said_number, said_signed}
 use Rattle.numeral.specs.DigitLoop.{digit_loop, digits_after}
 
 -- ---- runs of numbers
@@ -96,74 +105,77 @@ pub loop_reads : (base limit d : ℕ) (ds : List ℕ) → 1 ≤ base → digit_l
 unfolding spelled_by digits_after
 loop_reads base limit d ds h = loop_says base limit 0 (d ∷ ds) h (omega arith)
 
--- ---- the loop's steps, at a place of a text
+-- ---- the loop's steps, at a place among the digits
 
-module _ (l : List ℕ) (base limit at end : ℕ) (h : at < end) (k : end ≤ length l) where
-  pub began : 1 ≤ base → spelled_by base limit (drop at (take end l)) ≡ digit_loop base limit 0 (drop at (take end l))
-  began b = rw (uncons l at end h k) (sym (loop_reads base limit (get_or l at 0) (drop (at + 1) (take end l)) b))
+pub no_digits : (base limit : ℕ) (l : List ℕ) → length l ≡ 0 → none ≡ spelled_by base limit l
+unfolding spelled_by
+no_digits base limit [] h = refl
+no_digits base limit (d ∷ l) h = absurd (omega arith)
+
+pub began : (base limit : ℕ) (l : List ℕ) → 1 ≤ base → 0 < length l → spelled_by base limit l ≡ digit_loop base limit 0 l
+began base limit [] b h = absurd (omega arith)
+began base limit (d ∷ l) b h = sym (loop_reads base limit d l b)
+
+module _ (l : List ℕ) (base limit at : ℕ) (h : at < length l) where
+  here : drop at l ≡ get_or l at 0 ∷ drop (at + 1) l
+  here = drop-cons l at 0 h ∙ ap (λ n. get_or l at 0 ∷ drop n l) (sym (add-one at))
 
   pub digit : (v d : ℕ) → d ≡ digit_of (get_or l at 0) → d < base → v * base + d ≤ limit
-      → digit_loop base limit v (drop at (take end l)) ≡ digit_loop base limit (v * base + d) (drop (at + 1) (take end l))
+      → digit_loop base limit v (drop at l) ≡ digit_loop base limit (v * base + d) (drop (at + 1) l)
   unfolding digit_loop is_digit
-  digit v d e m f =
-      rw (uncons l at end h k, ← e, lt-ltb d base m, le-leb (v * base + d) limit f)
+  digit v d e m f = rw (here, ← e, lt-ltb d base m, le-leb (v * base + d) limit f)
 
-  pub no_digit : (v d : ℕ) → d ≡ digit_of (get_or l at 0) → base ≤ d → digit_loop base limit v (drop at (take end l)) ≡ none
+  pub not_digit : (v d : ℕ) → d ≡ digit_of (get_or l at 0) → base ≤ d → digit_loop base limit v (drop at l) ≡ none
   unfolding digit_loop is_digit
-  no_digit v d e m = rw (uncons l at end h k, ← e, le-ltb d base m)
+  not_digit v d e m = rw (here, ← e, le-ltb d base m)
 
-  pub too_great : (v d : ℕ) → d ≡ digit_of (get_or l at 0) → d < base → limit < v * base + d
-      → digit_loop base limit v (drop at (take end l)) ≡ none
+  pub too_great : (v d : ℕ) → d ≡ digit_of (get_or l at 0) → d < base → limit < v * base + d → digit_loop base limit v (drop at l) ≡ none
   unfolding digit_loop is_digit
-  too_great v d e m f = rw (uncons l at end h k, ← e, lt-ltb d base m, lt-leb (v * base + d) limit f)
+  too_great v d e m f = rw (here, ← e, lt-ltb d base m, lt-leb (v * base + d) limit f)
 
-  -- ---- the sign
-
-  pub plus_sign_lem : get_or l at 0 ≡ plus_sign → numeral base limit (drop at (take end l)) ≡ spelled_by base limit (drop (at + 1) (take end l))
-  unfolding numeral
-  plus_sign_lem e = rw (uncons l at end h k, e)
-
-  pub no_sign : (get_or l at 0 ≡ plus_sign → ⊥) → numeral base limit (drop at (take end l)) ≡ spelled_by base limit (drop at (take end l))
-  unfolding numeral
-  no_sign e = rw (uncons l at end h k, ne_eqb (get_or l at 0) plus_sign e)
-
-pub digits_ended : (base limit v : ℕ) (l : List ℕ) (at end : ℕ) → end ≤ at → digit_loop base limit v (drop at (take end l)) ≡ some v
+pub digits_ended : (base limit v : ℕ) (l : List ℕ) (at : ℕ) → length l ≤ at → digit_loop base limit v (drop at l) ≡ some v
 unfolding digit_loop
-digits_ended base limit v l at end h = rw (nothing l at end h)
+digits_ended base limit v l at h = rw (drop_of_length-le l h)
 
--- ---- nothing is no number
+-- ---- the sign
 
-module _ (base limit : ℕ) (l : List ℕ) (at end : ℕ) (h : end ≤ at) where
-  pub no_digits : spelled_by base limit (drop at (take end l)) ≡ none
-  unfolding spelled_by
-  no_digits = rw (nothing l at end h)
+-- what stands behind a byte in front, if the byte stands there
+abbrev pub Behind : ℕ → List ℕ → Option (Bor (List ℕ)) → Type 0
+Behind c s r = MatchOption r (pointwise eqb (take 1 s) (c ∷ []) ≡ false) (λ x. (pointwise eqb (take 1 s) (c ∷ []) ≡ true) × (x.now ≡ drop 1 s) × (length x.now + 1 ≡ length s))
 
-  pub no_number : numeral base limit (drop at (take end l)) ≡ none
-  unfolding numeral
-  no_number = rw (nothing l at end h)
+plus_dropped : (s : List ℕ) (d : Bor (List ℕ)) → d.now ≡ s → (r : Option (Bor (List ℕ))) → Behind plus_sign s r → (unwrap_or r d).now ≡ drop_plus s
+plus_dropped [] d e None h = e
+plus_dropped [] d e (Some x) h = absurd (false≢true h.0)
+plus_dropped (a ∷ s) d e None h = e ∙ sym (ap (λ b. cond b s (a ∷ s)) (sym (and-true (eqb a plus_sign)) ∙ h))
+plus_dropped (a ∷ s) d e (Some x) h = h.1 ∙ sym (ap (λ b. cond b s (a ∷ s)) (sym (and-true (eqb a plus_sign)) ∙ h.0))
 
--- ---- `-`
+pub plus_taken : (base limit : ℕ) (s : List ℕ) (d : Bor (List ℕ)) → d.now ≡ s → (r : Option (Bor (List ℕ))) → Behind plus_sign s r
+    → spelled_by base limit (unwrap_or r d).now ≡ numeral base limit s
+unfolding numeral
+plus_taken base limit s d e r h = ap (spelled_by base limit) (plus_dropped s d e r h)
 
-module _ (base top low : ℕ) (l : List ℕ) (at end : ℕ) where
-  pub no_signed : end ≤ at → signed_numeral base top low (drop at (take end l)) ≡ none
+module _ (base top low : ℕ) where
+  pub negative : (s rest : List ℕ) → pointwise eqb (take 1 s) (minus_sign ∷ []) ≡ true → rest ≡ drop 1 s
+      → as_neg (spelled_by base low rest) ≡ signed_numeral base top low s
   unfolding signed_numeral
-  no_signed h = rw (nothing l at end h)
+  negative [] rest h e = absurd (false≢true h)
+  negative (a ∷ s) rest h e =
+      ap (λ l. as_neg (spelled_by base low l)) e
+      ∙ sym (ap (λ b. cond b (as_neg (spelled_by base low s)) (as_pos (numeral base top (a ∷ s)))) (sym (and-true (eqb a minus_sign)) ∙ h))
 
-  pub minus_sign_lem : at < end → end ≤ length l → get_or l at 0 ≡ minus_sign
-      → signed_numeral base top low (drop at (take end l)) ≡ as_neg (spelled_by base low (drop (at + 1) (take end l)))
-  unfolding signed_numeral
-  minus_sign_lem h k e = rw (uncons l at end h k, e)
+  pub positive : (s : List ℕ) → pointwise eqb (take 1 s) (minus_sign ∷ []) ≡ false → as_pos (numeral base top s) ≡ signed_numeral base top low s
+  unfolding signed_numeral numeral
+  positive [] h = ap as_pos (sym (no_digits base top [] refl))
+  positive (a ∷ s) h =
+      sym (ap (λ b. cond b (as_neg (spelled_by base low s)) (as_pos (numeral base top (a ∷ s)))) (sym (and-true (eqb a minus_sign)) ∙ h))
 
-  pub no_minus : at < end → end ≤ length l → (get_or l at 0 ≡ minus_sign → ⊥)
-      → signed_numeral base top low (drop at (take end l)) ≡ as_pos (numeral base top (drop at (take end l)))
-  unfolding signed_numeral
-  no_minus h k e = rw (uncons l at end h k, ne_eqb (get_or l at 0) minus_sign e)
-
--- ---- the part's end
-
--- an end past the text is the text's
-pub cut_at_end : (l : List ℕ) (end : ℕ) {r : ℕ} → Least end (length l) r → take r l ≡ take end l
-cut_at_end l end {r} m = clamp l end r m.one m.other m.first
+-- the sign of what was read
+pub signed_by : (sign : ℕ → Signed) (say : math.Option ℕ → math.Option Integer) → none ≡ say none → ((n : ℕ) → said_signed (Some (sign n)) ≡ say (some n))
+    → (o : Option ℕ) (r : Option Signed) (Gives : ℕ → Signed → Type 0) → MatchOption o (r ≡ None) (λ n. IsSomeAnd r (Gives n))
+    → ((n : ℕ) (y : Signed) → Gives n y → y ≡ sign n) → said_signed r ≡ say (said_number o)
+signed_by sign say e f None r Gives m g = ap said_signed m ∙ e
+signed_by sign say e f (Some n) None Gives m g = absurd m
+signed_by sign say e f (Some n) (Some y) Gives m g = ap (λ z. said_signed (Some z)) (g n y m) ∙ f n
 
 -- ---- room for the next value
 

@@ -23,39 +23,37 @@ use Rattle.paper.proofs.Apart.{zero_one, none_some}
 use Rattle.paper.proofs.Numbers.Read.{decimal_small}
 use Rattle.paper.proofs.Numbers.Laws as laws
 use Rattle.paper.proofs.CharDef.Bounds.{hex_read, hex_found}
-use Rattle.numeral.specs.declared.Number.{Number}
-use Rattle.numeral.specs.declared.Number.TheVariants as number
 use Rattle.numeral.specs.declared.Signed.{Signed}
 use Rattle.numeral.specs.declared.Signed.TheVariants as signed
-use Rattle.numeral.specs.declared.Bound.{Bound}
-use Rattle.numeral.specs.declared.Bound.TheVariants as bound
 use Rattle.numeral.specs.Said.{said_number, said_signed, said_bound}
 use Rattle.numeral.specs.Fits.{NumberFits, SignedFits, Marked, CodeFits, unreadable, mark, BoundFits}
+use Rattle.std.specs.Prelude.{Err, None, Ok, Result, Some}
+use Rattle.std.specs.Prelude as code
 
 -- ---- an answer is what it says
 
-pub said_number_lem : (r s : Number) → said_number r ≡ said_number s → r ≡ s
-said_number_lem (number.Value m) (number.Value n) e = cc
-said_number_lem (number.Value m) number.Bad e = none_some (sym e)
-said_number_lem number.Bad (number.Value n) e = none_some e
-said_number_lem number.Bad number.Bad e = refl
+pub said_number_lem : (r s : code.Option ℕ) → said_number r ≡ said_number s → r ≡ s
+said_number_lem (Some m) (Some n) e = cc
+said_number_lem (Some m) None e = none_some (sym e)
+said_number_lem None (Some n) e = none_some e
+said_number_lem None None e = refl
 
-pub said_signed_lem : (r s : Signed) → said_signed r ≡ said_signed s → r ≡ s
-said_signed_lem (signed.Plus m) (signed.Plus n) e = cc
-said_signed_lem (signed.Plus m) (signed.Minus n) e = zero_one (cc)
-said_signed_lem (signed.Plus m) signed.Bad e = none_some (sym e)
-said_signed_lem (signed.Minus m) (signed.Plus n) e = zero_one (cc)
-said_signed_lem (signed.Minus m) (signed.Minus n) e = cc
-said_signed_lem (signed.Minus m) signed.Bad e = none_some (sym e)
-said_signed_lem signed.Bad (signed.Plus n) e = none_some e
-said_signed_lem signed.Bad (signed.Minus n) e = none_some e
-said_signed_lem signed.Bad signed.Bad e = refl
+pub said_signed_lem : (r s : code.Option Signed) → said_signed r ≡ said_signed s → r ≡ s
+said_signed_lem (Some (signed.Plus m)) (Some (signed.Plus n)) e = cc
+said_signed_lem (Some (signed.Plus m)) (Some (signed.Minus n)) e = zero_one (cc)
+said_signed_lem (Some (signed.Plus m)) None e = none_some (sym e)
+said_signed_lem (Some (signed.Minus m)) (Some (signed.Plus n)) e = zero_one (cc)
+said_signed_lem (Some (signed.Minus m)) (Some (signed.Minus n)) e = cc
+said_signed_lem (Some (signed.Minus m)) None e = none_some (sym e)
+said_signed_lem None (Some (signed.Plus n)) e = none_some e
+said_signed_lem None (Some (signed.Minus n)) e = none_some e
+said_signed_lem None None e = refl
 
-pub said_bound_lem : (r s : Bound) → said_bound r ≡ said_bound s → r ≡ s
-said_bound_lem (bound.Code m) (bound.Code n) e = cc
-said_bound_lem (bound.Code m) (bound.NoBound n) e = zero_one (cc)
-said_bound_lem (bound.NoBound m) (bound.Code n) e = zero_one (cc)
-said_bound_lem (bound.NoBound m) (bound.NoBound n) e = cc
+pub said_bound_lem : (r s : Result ℕ ℕ) → said_bound r ≡ said_bound s → r ≡ s
+said_bound_lem (Ok m) (Ok n) e = cc
+said_bound_lem (Ok m) (Err n) e = zero_one (cc)
+said_bound_lem (Err m) (Ok n) e = zero_one (cc)
+said_bound_lem (Err m) (Err n) e = cc
 
 -- ---- numerals, over base and limit
 
@@ -72,27 +70,27 @@ module _ {A : Type 0} {Fits : A → Type 0} (o : Option A) (law : (x : A) → (o
       go never (some x) e = absurd (never x ((law x).0 e))
 
 module _ (base limit : ℕ) (b16 : base ≤ no_digit) (cs : List ℕ) where
-  pub number_fits : (r : Number) → (said_number r ≡ numeral base limit cs) ↔ NumberFits base limit cs r
-  number_fits (number.Value n) = some_fits (numeral base limit cs) (laws.unsigned base limit b16 cs) n
-  number_fits number.Bad = none_fits (numeral base limit cs) (laws.unsigned base limit b16 cs)
+  pub number_fits : (r : code.Option ℕ) → (said_number r ≡ numeral base limit cs) ↔ NumberFits base limit cs r
+  number_fits (Some n) = some_fits (numeral base limit cs) (laws.unsigned base limit b16 cs) n
+  number_fits None = none_fits (numeral base limit cs) (laws.unsigned base limit b16 cs)
 
-  pub number_one : (r s : Number) → NumberFits base limit cs r → NumberFits base limit cs s → r ≡ s
+  pub number_one : (r s : code.Option ℕ) → NumberFits base limit cs r → NumberFits base limit cs s → r ≡ s
   number_one r s f g = said_number_lem r s ((number_fits r).1 f ∙ sym ((number_fits s).1 g))
 
   -- accepted exactly when some number fits, and with that one
-  pub number_read : (r : Number) → NumberFits base limit cs r → (n : ℕ) → (r ≡ number.Value n) ↔ Numeral base limit cs n
-  number_read r f n = (λ e. subst (NumberFits base limit cs) e f, λ g. number_one r (number.Value n) f g)
+  pub number_read : (r : code.Option ℕ) → NumberFits base limit cs r → (n : ℕ) → (r ≡ Some n) ↔ Numeral base limit cs n
+  number_read r f n = (λ e. subst (NumberFits base limit cs) e f, λ g. number_one r (Some n) f g)
 
 module _ (base top low : ℕ) (b16 : base ≤ no_digit) (cs : List ℕ) where
-  pub signed_fits : (r : Signed) → (said_signed r ≡ signed_numeral base top low cs) ↔ SignedFits base top low cs r
-  signed_fits (signed.Plus n) = some_fits (signed_numeral base top low cs) (laws.signed base top low b16 cs) (pos n)
-  signed_fits (signed.Minus n) = some_fits (signed_numeral base top low cs) (laws.signed base top low b16 cs) (neg n)
-  signed_fits signed.Bad = none_fits (signed_numeral base top low cs) (laws.signed base top low b16 cs)
+  pub signed_fits : (r : code.Option Signed) → (said_signed r ≡ signed_numeral base top low cs) ↔ SignedFits base top low cs r
+  signed_fits (Some (signed.Plus n)) = some_fits (signed_numeral base top low cs) (laws.signed base top low b16 cs) (pos n)
+  signed_fits (Some (signed.Minus n)) = some_fits (signed_numeral base top low cs) (laws.signed base top low b16 cs) (neg n)
+  signed_fits None = none_fits (signed_numeral base top low cs) (laws.signed base top low b16 cs)
 
-  pub signed_one : (r s : Signed) → SignedFits base top low cs r → SignedFits base top low cs s → r ≡ s
+  pub signed_one : (r s : code.Option Signed) → SignedFits base top low cs r → SignedFits base top low cs s → r ≡ s
   signed_one r s f g = said_signed_lem r s ((signed_fits r).1 f ∙ sym ((signed_fits s).1 g))
 
-  pub signed_read : (r : Signed) → SignedFits base top low cs r → (i : Integer) → (said_signed r ≡ some i) ↔ SignedNumeral base top low cs i
+  pub signed_read : (r : code.Option Signed) → SignedFits base top low cs r → (i : Integer) → (said_signed r ≡ some i) ↔ SignedNumeral base top low cs i
   signed_read r f i =
       let e = (signed_fits r).1 f in
       let law = laws.signed base top low b16 cs i in
@@ -117,19 +115,19 @@ which code = go (eqb code 0xFEFF) (eqb code 0xFFFE) refl refl
     go false true e f = inl (inr (eqb-true code 0xFFFE f))
     go false false e f = inr (eqb-false code 0xFEFF e, eqb-false code 0xFFFE f)
 
-pub ucs2_to_unicode_fits : (code : ℕ) (r : Bound) → (said_bound r ≡ checked_bound (some code)) ↔ CodeFits code r
-ucs2_to_unicode_fits code (bound.Code b) = (λ e. there e (which code), λ f. ap bound_is f.2 ∙ sym (neither code f.0 f.1))
+pub ucs2_to_unicode_fits : (code : ℕ) (r : Result ℕ ℕ) → (said_bound r ≡ checked_bound (some code)) ↔ CodeFits code r
+ucs2_to_unicode_fits code (Ok b) = (λ e. there e (which code), λ f. ap bound_is f.2 ∙ sym (neither code f.0 f.1))
   where
-    there : bound_is b ≡ checked_bound (some code) → Marked code ⊎ ((code ≢ 0xFEFF) × (code ≢ 0xFFFE)) → CodeFits code (bound.Code b)
+    there : bound_is b ≡ checked_bound (some code) → Marked code ⊎ ((code ≢ 0xFEFF) × (code ≢ 0xFFFE)) → CodeFits code (Ok b)
     there e (inl m) = let c : bound_is b ≡ no_bound bound_mark = e ∙ marked code m in zero_one (cc)
     there e (inr n) = let c : bound_is b ≡ bound_is (stands_for code) = e ∙ neither code n.0 n.1 in (n.0, n.1, cc)
-ucs2_to_unicode_fits code (bound.NoBound k) = (λ e. there e (which code), λ f. ap no_bound f.1 ∙ sym (marked code f.0))
+ucs2_to_unicode_fits code (Err k) = (λ e. there e (which code), λ f. ap no_bound f.1 ∙ sym (marked code f.0))
   where
-    there : no_bound k ≡ checked_bound (some code) → Marked code ⊎ ((code ≢ 0xFEFF) × (code ≢ 0xFFFE)) → CodeFits code (bound.NoBound k)
+    there : no_bound k ≡ checked_bound (some code) → Marked code ⊎ ((code ≢ 0xFEFF) × (code ≢ 0xFFFE)) → CodeFits code (Err k)
     there e (inl m) = let c : no_bound k ≡ no_bound bound_mark = e ∙ marked code m in (m, cc)
     there e (inr n) = let c : no_bound k ≡ bound_is (stands_for code) = e ∙ neither code n.0 n.1 in zero_one (cc)
 
-pub ucs2_to_unicode_one : (code : ℕ) (r s : Bound) → CodeFits code r → CodeFits code s → r ≡ s
+pub ucs2_to_unicode_one : (code : ℕ) (r s : Result ℕ ℕ) → CodeFits code r → CodeFits code s → r ≡ s
 ucs2_to_unicode_one code r s f g = said_bound_lem r s ((ucs2_to_unicode_fits code r).1 f ∙ sym ((ucs2_to_unicode_fits code s).1 g))
 
 -- ---- bounds
@@ -153,12 +151,12 @@ module _ (cs : List ℕ) where
       go none e = inr ((none_fits (numeral hexadecimal max_u16 (strip0x cs)) (hex_code cs)).0 (sym e))
       go (some code) e = inl (code, (hex_code cs code).0 e)
 
-  pub parse_hex_codepoint_fits : (r : Bound) → (said_bound r ≡ bound_of cs) ↔ BoundFits cs r
-  parse_hex_codepoint_fits (bound.Code b) = (λ e. there e has_code, back)
+  pub parse_hex_codepoint_fits : (r : Result ℕ ℕ) → (said_bound r ≡ bound_of cs) ↔ BoundFits cs r
+  parse_hex_codepoint_fits (Ok b) = (λ e. there e has_code, back)
     where
-      there : bound_is b ≡ bound_of cs → ((code : ℕ) × Hex16 cs code) ⊎ ((code : ℕ) → Hex16 cs code → ⊥) → BoundFits cs (bound.Code b)
+      there : bound_is b ≡ bound_of cs → ((code : ℕ) × Hex16 cs code) ⊎ ((code : ℕ) → Hex16 cs code → ⊥) → BoundFits cs (Ok b)
       there e (inl (code, h)) =
-          let f = (ucs2_to_unicode_fits code (bound.Code b)).0 (e ∙ of_code code h) in
+          let f = (ucs2_to_unicode_fits code (Ok b)).0 (e ∙ of_code code h) in
           record {
             times = h.times;
             numeral = h.numeral;
@@ -172,45 +170,45 @@ module _ (cs : List ℕ) where
           }
       there e (inr never) = let c : bound_is b ≡ no_bound bound_unreadable = e ∙ of_none never in zero_one (cc)
 
-      back : BoundFits cs (bound.Code b) → bound_is b ≡ bound_of cs
+      back : BoundFits cs (Ok b) → bound_is b ≡ bound_of cs
       back f =
           let h : Hex16 cs f.code = record { times = f.times; numeral = f.numeral; whole = f.whole; number = f.number } in
-          (ucs2_to_unicode_fits f.code (bound.Code b)).1 (f.no_mark, f.no_swap, f.says) ∙ sym (of_code f.code h)
-  parse_hex_codepoint_fits (bound.NoBound k) = (λ e. there e has_code, back)
+          (ucs2_to_unicode_fits f.code (Ok b)).1 (f.no_mark, f.no_swap, f.says) ∙ sym (of_code f.code h)
+  parse_hex_codepoint_fits (Err k) = (λ e. there e has_code, back)
     where
-      there : no_bound k ≡ bound_of cs → ((code : ℕ) × Hex16 cs code) ⊎ ((code : ℕ) → Hex16 cs code → ⊥) → BoundFits cs (bound.NoBound k)
-      there e (inl (code, h)) = let f = (ucs2_to_unicode_fits code (bound.NoBound k)).0 (e ∙ of_code code h) in mark code h f.0 f.1
+      there : no_bound k ≡ bound_of cs → ((code : ℕ) × Hex16 cs code) ⊎ ((code : ℕ) → Hex16 cs code → ⊥) → BoundFits cs (Err k)
+      there e (inl (code, h)) = let f = (ucs2_to_unicode_fits code (Err k)).0 (e ∙ of_code code h) in mark code h f.0 f.1
       there e (inr never) = let c : no_bound k ≡ no_bound bound_unreadable = e ∙ of_none never in unreadable never (cc)
 
-      back : BoundFits cs (bound.NoBound k) → no_bound k ≡ bound_of cs
+      back : BoundFits cs (Err k) → no_bound k ≡ bound_of cs
       back (unreadable never e) = ap no_bound e ∙ sym (of_none never)
-      back (mark code h m e) = (ucs2_to_unicode_fits code (bound.NoBound k)).1 (m, e) ∙ sym (of_code code h)
+      back (mark code h m e) = (ucs2_to_unicode_fits code (Err k)).1 (m, e) ∙ sym (of_code code h)
 
-  pub parse_hex_codepoint_one : (r s : Bound) → BoundFits cs r → BoundFits cs s → r ≡ s
+  pub parse_hex_codepoint_one : (r s : Result ℕ ℕ) → BoundFits cs r → BoundFits cs s → r ≡ s
   parse_hex_codepoint_one r s f g = said_bound_lem r s ((parse_hex_codepoint_fits r).1 f ∙ sym ((parse_hex_codepoint_fits s).1 g))
 
-  pub parse_hex_codepoint_read : (r : Bound) → BoundFits cs r → (b : ℕ) → (r ≡ bound.Code b) ↔ line.Bound 0 cs b
-  parse_hex_codepoint_read r f b = (λ e. subst (BoundFits cs) e f, λ g. parse_hex_codepoint_one r (bound.Code b) f g)
+  pub parse_hex_codepoint_read : (r : Result ℕ ℕ) → BoundFits cs r → (b : ℕ) → (r ≡ Ok b) ↔ line.Bound 0 cs b
+  parse_hex_codepoint_read r f b = (λ e. subst (BoundFits cs) e f, λ g. parse_hex_codepoint_one r (Ok b) f g)
 
 -- ---- u32 and i32
 
-pub parse_u32_fits : (cs : List ℕ) (r : Number) → (said_number r ≡ numeral decimal max_u32 cs) ↔ NumberFits decimal max_u32 cs r
+pub parse_u32_fits : (cs : List ℕ) (r : code.Option ℕ) → (said_number r ≡ numeral decimal max_u32 cs) ↔ NumberFits decimal max_u32 cs r
 parse_u32_fits cs = number_fits decimal max_u32 decimal_small cs
 
-pub parse_i32_fits : (cs : List ℕ) (r : Signed) → (said_signed r ≡ signed_numeral decimal max_i32 low_i32 cs) ↔ SignedFits decimal max_i32 low_i32 cs r
+pub parse_i32_fits : (cs : List ℕ) (r : code.Option Signed) → (said_signed r ≡ signed_numeral decimal max_i32 low_i32 cs) ↔ SignedFits decimal max_i32 low_i32 cs r
 parse_i32_fits cs = signed_fits decimal max_i32 low_i32 decimal_small cs
 
 -- two answers that a promise allows coincide
-pub parse_u32_one : (cs : List ℕ) (r s : Number) → NumberFits decimal max_u32 cs r → NumberFits decimal max_u32 cs s → r ≡ s
+pub parse_u32_one : (cs : List ℕ) (r s : code.Option ℕ) → NumberFits decimal max_u32 cs r → NumberFits decimal max_u32 cs s → r ≡ s
 parse_u32_one cs = number_one decimal max_u32 decimal_small cs
 
-pub parse_i32_one : (cs : List ℕ) (r s : Signed) → SignedFits decimal max_i32 low_i32 cs r → SignedFits decimal max_i32 low_i32 cs s → r ≡ s
+pub parse_i32_one : (cs : List ℕ) (r s : code.Option Signed) → SignedFits decimal max_i32 low_i32 cs r → SignedFits decimal max_i32 low_i32 cs s → r ≡ s
 parse_i32_one cs = signed_one decimal max_i32 low_i32 decimal_small cs
 
 -- accepted exactly when some number fits, and with that one
-pub parse_u32_read : (cs : List ℕ) (r : Number) → NumberFits decimal max_u32 cs r → (n : ℕ) → (r ≡ number.Value n) ↔ Numeral decimal max_u32 cs n
+pub parse_u32_read : (cs : List ℕ) (r : code.Option ℕ) → NumberFits decimal max_u32 cs r → (n : ℕ) → (r ≡ Some n) ↔ Numeral decimal max_u32 cs n
 parse_u32_read cs = number_read decimal max_u32 decimal_small cs
 
-pub parse_i32_read : (cs : List ℕ) (r : Signed) → SignedFits decimal max_i32 low_i32 cs r
+pub parse_i32_read : (cs : List ℕ) (r : code.Option Signed) → SignedFits decimal max_i32 low_i32 cs r
     → (i : Integer) → (said_signed r ≡ some i) ↔ SignedNumeral decimal max_i32 low_i32 cs i
 parse_i32_read cs = signed_read decimal max_i32 low_i32 decimal_small cs

@@ -4,7 +4,6 @@
 #![tactic(auto)]
 
 ghost use Rattle.std.specs.Prelude.{◌≡◌, ◌+◌, ◌<◌, length, take, drop};
-ghost use Rattle.numeral.specs.Asked.{Least};
 ghost use Rattle.scan.specs.Marks.{gap_byte, gap_width};
 ghost use Rattle.scan.specs.Answer.{gap_run, word_run, solid, NextWord, Body};
 ghost use Rattle.scan.specs.Asked.{Inside, Wide};
@@ -30,7 +29,7 @@ const WHITE_LEAD_3: u8 = 0xE1;
 const WHITE_LEAD_3_END: u8 = 0xE3;
 
 // A part of the text, from `start` up to `end`.
-#[derive(Drop)]
+#[derive(Clone, Copy)]
 pub struct Part {
     pub start: usize,
     pub end: usize,
@@ -53,16 +52,17 @@ fn wide_gap(text: &[u8], at: usize, end: usize, white: bool) -> usize
     requires { Wide text.now at end }
     ensures { result ≡ gap_width white (drop at (take end text.now)) }
 {
-    if white {
-        return match text[at] {
-            WHITE_LEAD_2 | WHITE_LEAD_3..=WHITE_LEAD_3_END => text::white_width(&text[..end], at),
-            _ => 0,
-        };
+    if !white {
+        return 0;
     }
-    0
+    match text[at] {
+        WHITE_LEAD_2 | WHITE_LEAD_3..=WHITE_LEAD_3_END => text::white_width(&text[..end], at),
+        _ => 0,
+    }
 }
 
 // Past the gap at `start`.
+// A `while`: the characters of a gap are of one to three bytes, so the place moves by varying steps.
 fn skip_gap(text: &[u8], start: usize, end: usize, white: bool) -> usize
     requires { Inside text.now start end }
     ensures { result ≡ start + length (gap_run white (drop start (take end text.now))) }
@@ -92,26 +92,21 @@ fn word_end(text: &[u8], start: usize, end: usize, white: bool) -> usize
     requires { Inside text.now start end }
     ensures { result ≡ start + length (word_run white (drop start (take end text.now))) }
 {
-    let mut at = start;
-    while at < end {
+    for at in start..end {
         let b = text[at];
         if b < ASCII_END {
             if is_gap(b, white) {
                 return at;
             }
-            at += 1;
-        } else {
-            let w = wide_gap(text, at, end, white);
-            if 0 < w {
-                return at;
-            }
-            at += 1;
+        } else if 0 < wide_gap(text, at, end, white) {
+            return at;
         }
     }
-    at
+    end
 }
 
 // The end of the last character that is no White_Space, before a `#`.
+// A `while`, since the place moves by varying steps here too.
 fn solid_end(text: &[u8], start: usize, end: usize) -> usize
     requires { Inside text.now start end }
     ensures { result ≡ start + length (solid (drop start (take end text.now))) }
@@ -124,10 +119,8 @@ fn solid_end(text: &[u8], start: usize, end: usize) -> usize
             return last;
         }
         if b < ASCII_END {
-            if is_gap(b, true) {
-                at += 1;
-            } else {
-                at += 1;
+            at += 1;
+            if !is_gap(b, true) {
                 last = at;
             }
         } else {
@@ -143,28 +136,18 @@ fn solid_end(text: &[u8], start: usize, end: usize) -> usize
     last
 }
 
-fn least(a: usize, b: usize) -> usize
-    ensures { Least a b result }
-{
-    if a < b { a } else { b }
-}
-
 // The body of the line from `start` to `end`: what stands before the first `#`, with White_Space trimmed at both ends.
 pub fn body_of(text: &[u8], start: usize, end: usize) -> Part
     ensures { Body text.now start end result }
 {
-    let stop = least(end, text.len());
+    let stop = end.min(text.len());
     if stop < start {
-        return Part {
-            start: start,
-            end: start,
-        };
+        return Part { start, end: start };
     }
     let from = skip_gap(text, start, stop, true);
-    let to = solid_end(text, from, stop);
     Part {
         start: from,
-        end: to,
+        end: solid_end(text, from, stop),
     }
 }
 
@@ -173,17 +156,13 @@ pub fn body_of(text: &[u8], start: usize, end: usize) -> Part
 pub fn next_word(text: &[u8], start: usize, end: usize, white: bool) -> Part
     ensures { NextWord text.now start end white result }
 {
-    let stop = least(end, text.len());
+    let stop = end.min(text.len());
     if stop < start {
-        return Part {
-            start: start,
-            end: start,
-        };
+        return Part { start, end: start };
     }
     let from = skip_gap(text, start, stop, white);
-    let to = word_end(text, from, stop, white);
     Part {
         start: from,
-        end: to,
+        end: word_end(text, from, stop, white),
     }
 }

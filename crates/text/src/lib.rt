@@ -55,18 +55,18 @@ fn class(table: &[u8; 256], b: u8) -> u8
     requires { ByClass table.now }
     ensures { result ≡ class_of b }
 {
-    table[b as usize]
+    table[usize::from(b)]
 }
 
 // A character and the place behind it.
-#[derive(Drop)]
+#[derive(Clone, Copy)]
 pub struct Scalar {
     pub value: u32,
     pub next: usize,
 }
 
 // What stands at a place: a character, the end, or no character.
-#[derive(Drop)]
+#[derive(Clone, Copy)]
 pub enum Next {
     Char(Scalar),
     End,
@@ -88,7 +88,7 @@ fn two_octets<'a>(s: &'a [u8], at: usize, table: &'a [u8; 256]) -> Next
         return Next::Bad;
     }
     Next::Char(Scalar {
-        value: a as u32 % 32 * 64 + b as u32 % 64,
+        value: u32::from(a) % 32 * 64 + u32::from(b) % 64,
         next: at + 2,
     })
 }
@@ -106,17 +106,11 @@ fn three_octets<'a>(s: &'a [u8], at: usize, table: &'a [u8; 256], low: u8, high:
     let a = s[at];
     let b = s[at + 1];
     let c = s[at + 2];
-    if b < low {
-        return Next::Bad;
-    }
-    if high < b {
-        return Next::Bad;
-    }
-    if class(table, c) != TAIL {
+    if b < low || high < b || class(table, c) != TAIL {
         return Next::Bad;
     }
     Next::Char(Scalar {
-        value: (a as u32 % 16 * 64 + b as u32 % 64) * 64 + c as u32 % 64,
+        value: (u32::from(a) % 16 * 64 + u32::from(b) % 64) * 64 + u32::from(c) % 64,
         next: at + 3,
     })
 }
@@ -135,20 +129,12 @@ fn four_octets<'a>(s: &'a [u8], at: usize, table: &'a [u8; 256], low: u8, high: 
     let b = s[at + 1];
     let c = s[at + 2];
     let d = s[at + 3];
-    if b < low {
-        return Next::Bad;
-    }
-    if high < b {
-        return Next::Bad;
-    }
-    if class(table, c) != TAIL {
-        return Next::Bad;
-    }
-    if class(table, d) != TAIL {
+    if b < low || high < b || class(table, c) != TAIL || class(table, d) != TAIL {
         return Next::Bad;
     }
     Next::Char(Scalar {
-        value: ((a as u32 % 8 * 64 + b as u32 % 64) * 64 + c as u32 % 64) * 64 + d as u32 % 64,
+        value: ((u32::from(a) % 8 * 64 + u32::from(b) % 64) * 64 + u32::from(c) % 64) * 64
+            + u32::from(d) % 64,
         next: at + 4,
     })
 }
@@ -181,15 +167,15 @@ pub fn next_char(s: &[u8], at: usize) -> Next
     let a = s[at];
     if a < 0x80 {
         return Next::Char(Scalar {
-            value: a as u32,
+            value: u32::from(a),
             next: at + 1,
         });
     }
-    let table = classes();
-    octets_at(s, at, &table)
+    octets_at(s, at, &classes())
 }
 
 // The length of the longest well-formed prefix.
+// A `while`: characters are of one to four bytes, so the place moves by varying steps.
 pub fn valid_prefix(s: &[u8]) -> usize
     ensures { LongestPrefix result s.now }
 {
@@ -211,11 +197,11 @@ pub fn valid_prefix(s: &[u8]) -> usize
 pub fn is_white_space(c: u32) -> bool
     ensures { result ≡ is_white c }
 {
-    match c {
-        0x0009..=0x000D | 0x0020 | 0x0085 | 0x00A0 | 0x1680 | 0x2000..=0x200A => true,
-        0x2028 | 0x2029 | 0x202F | 0x205F | 0x3000 => true,
-        _ => false,
-    }
+    matches!(
+        c,
+        0x0009..=0x000D | 0x0020 | 0x0085 | 0x00A0 | 0x1680 | 0x2000..=0x200A |
+        0x2028 | 0x2029 | 0x202F | 0x205F | 0x3000
+    )
 }
 
 // How many bytes of White_Space stand at `at`: those of one character, or none.
@@ -227,23 +213,18 @@ pub fn white_width(s: &[u8], at: usize) -> usize
     }
     let a = s[at];
     if a < 0x80 {
-        if is_white_space(a as u32) {
-            return 1;
-        }
-        return 0;
+        return usize::from(is_white_space(u32::from(a)));
     }
     // What begins below C2 or above E3 is no White_Space: no character, or one from U+4000 up.
-    if a < 0xC2 {
-        return 0;
-    }
-    if 0xE3 < a {
+    if a < 0xC2 || 0xE3 < a {
         return 0;
     }
     let Next::Char(c) = next_char(s, at) else {
         return 0;
     };
     if is_white_space(c.value) {
-        return c.next - at;
+        c.next - at
+    } else {
+        0
     }
-    0
 }

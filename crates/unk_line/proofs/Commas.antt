@@ -15,7 +15,7 @@ use Rattle.paper.specs.Unk.Entry.{nul}
 use Rattle.paper.proofs.Lists.Parts.{nothing, part_length, take_part}
 use Rattle.numeral.specs.Asked.{Least}
 use Rattle.unk_line.specs.Line.{joined_fields}
-use Rattle.unk_line.specs.Asked.{FourAre}
+use Rattle.unk_line.specs.Asked.{comma_at, FourAre}
 
 -- ---- cuts
 
@@ -78,10 +78,6 @@ module _ (byte : ℕ) (text : List ℕ) (start end at : ℕ) (within : end ≤ l
       cut_none (is byte) (drop start (take end text)) (omega arith)
 
 -- ---- four of them
-
--- where the commas of a line are sought
-abbrev comma_at : List ℕ → ℕ → ℕ → ℕ
-comma_at text start end = start + length (until (is comma) (drop start (take end text)))
 
 module _ (text : List ℕ) (start end first : ℕ) (within : end ≤ length text) (e₁ : first ≡ comma_at text start end) where
   pub one_field : end ≤ first → length (cut (is comma) (drop start (take end text))) < line_fields

@@ -17,9 +17,8 @@ use Rattle.paper.proofs.Unk.Line.{unk_line}
 use Rattle.paper.proofs.Unk.Bad.{unk_bad_line, stops_same}
 use Rattle.unk_line.specs.Line.{SaysLine, entry_at, joined_fields}
 use Rattle.unk_line.specs.declared.UnkEntry.{UnkEntry}
-use Rattle.unk_line.specs.declared.UnkLine.{UnkLine}
-use Rattle.unk_line.specs.declared.UnkLine.TheVariants as line
 use Rattle.unk_line.proofs.Joined.{joined_long}
+use Rattle.std.specs.Prelude.{Err, Ok, Result}
 
 -- ---- nothing is left open
 
@@ -33,8 +32,8 @@ module _ (text : List ℕ) (start end : ℕ) where
   details_is : (e : UnkEntry) → length (joined_fields (drop e.details (take end text))) ≡ length (take end text) - e.details
   details_is e = joined_long (drop e.details (take end text)) ∙ length-drop e.details (take end text)
 
-  pub one_line : (found : UnkFound) (r s : UnkLine) → SaysLine text start end found r → SaysLine text start end found s → r ≡ s
-  one_line found (line.Entry d) (line.Entry e) p q =
+  pub one_line : (found : UnkFound) (r s : Result UnkEntry ℕ) → SaysLine text start end found r → SaysLine text start end found s → r ≡ s
+  one_line found (Ok d) (Ok e) p q =
       let t : entry (entry_at text start end d) ≡ entry (entry_at text start end e) = sym p.is ∙ q.is in
       let u : entry_at text start end d ≡ entry_at text start end e = cc in
       let l : d.left ≡ e.left = ap (λ x. x.left) u in
@@ -52,10 +51,10 @@ module _ (text : List ℕ) (start end : ℕ) where
       let i = p.details_inside in
       let j = q.details_inside in
       let o : d.details ≡ e.details = omega arith in
-      λ x. line.Entry (record { surface = s x; left = l x; right = r x; cost = k x; details = o x })
-  one_line found (line.Entry d) (line.NoEntry n) p q = let t = p.is in zero_one (cc)
-  one_line found (line.NoEntry m) (line.Entry e) p q = let t = q.is in zero_one (cc)
-  one_line found (line.NoEntry m) (line.NoEntry n) p q = let t : no_entry m ≡ no_entry n = sym p ∙ q in let d : m ≡ n = cc in ap line.NoEntry d
+      λ x. Ok (record { surface = s x; left = l x; right = r x; cost = k x; details = o x })
+  one_line found (Ok d) (Err n) p q = let t = p.is in zero_one (cc)
+  one_line found (Err m) (Ok e) p q = let t = q.is in zero_one (cc)
+  one_line found (Err m) (Err n) p q = let t : no_entry m ≡ no_entry n = sym p ∙ q in let d : m ≡ n = cc in ap Err d
 
 -- ---- by the paper's relations
 
@@ -75,35 +74,35 @@ alone_entry : (e : Entry) → alone (entry e) ≡ entries_are (e ∷ [])
 unfolding alone
 alone_entry e = refl
 
-module _ (text : List ℕ) (start end : ℕ) {r : UnkLine} (p : SaysLine text start end (unk_line_of (drop start (take end text))) r) where
+module _ (text : List ℕ) (start end : ℕ) {r : Result UnkEntry ℕ} (p : SaysLine text start end (unk_line_of (drop start (take end text))) r) where
   -- the entry that is answered is the line's
-  pub entry_fits : (e : UnkEntry) → r ≡ line.Entry e → paper.UnkLine (drop start (take end text)) (entry_at text start end e)
+  pub entry_fits : (e : UnkEntry) → r ≡ Ok e → paper.UnkLine (drop start (take end text)) (entry_at text start end e)
   entry_fits e h = (unk_line (drop start (take end text)) (entry_at text start end e)).0 (subst (SaysLine text start end (unk_line_of (drop start (take end text)))) h p).is
 
   -- and where the line says an entry, that entry is answered
-  pub fits_entry : (e : Entry) → paper.UnkLine (drop start (take end text)) e → (d : UnkEntry) × ((r ≡ line.Entry d) × (entry_at text start end d ≡ e))
+  pub fits_entry : (e : Entry) → paper.UnkLine (drop start (take end text)) e → (d : UnkEntry) × ((r ≡ Ok d) × (entry_at text start end d ≡ e))
   fits_entry e u = go r refl p
     where
-      go : (s : UnkLine) → r ≡ s → SaysLine text start end (unk_line_of (drop start (take end text))) s
-          → (d : UnkEntry) × ((r ≡ line.Entry d) × (entry_at text start end d ≡ e))
-      go (line.Entry d) h q =
+      go : (s : Result UnkEntry ℕ) → r ≡ s → SaysLine text start end (unk_line_of (drop start (take end text))) s
+          → (d : UnkEntry) × ((r ≡ Ok d) × (entry_at text start end d ≡ e))
+      go (Ok d) h q =
           let a : unk_line_of (drop start (take end text)) ≡ entry (entry_at text start end d) = q.is in
           let b : unk_line_of (drop start (take end text)) ≡ entry e = (unk_line (drop start (take end text)) e).1 u in
           (d, (h, cc))
-      go (line.NoEntry n) h q =
+      go (Err n) h q =
           let b : unk_line_of (drop start (take end text)) ≡ entry e = (unk_line (drop start (take end text)) e).1 u in
           zero_one (cc)
 
   -- a number exactly where that is what is wrong with the line
-  pub refuses_line : (n : ℕ) → (r ≡ line.NoEntry n) ↔ BadUnkLine 0 (drop start (take end text)) n
+  pub refuses_line : (n : ℕ) → (r ≡ Err n) ↔ BadUnkLine 0 (drop start (take end text)) n
   refuses_line n = (to, λ b. go r refl p (sym (alone_read (drop start (take end text))) ∙ (unk_bad_line 0 (drop start (take end text)) n (lit≤ tt)).1 b))
     where
-      to : r ≡ line.NoEntry n → BadUnkLine 0 (drop start (take end text)) n
+      to : r ≡ Err n → BadUnkLine 0 (drop start (take end text)) n
       to h =
           let f : unk_line_of (drop start (take end text)) ≡ no_entry n = subst (SaysLine text start end (unk_line_of (drop start (take end text)))) h p in
           (unk_bad_line 0 (drop start (take end text)) n (lit≤ tt)).0 (alone_read (drop start (take end text)) ∙ ap alone f ∙ alone_bad n)
 
-      go : (s : UnkLine) → r ≡ s → SaysLine text start end (unk_line_of (drop start (take end text))) s → alone (unk_line_of (drop start (take end text))) ≡ stops n 1
-          → r ≡ line.NoEntry n
-      go (line.Entry d) h q g = stops_entries (sym (sym (alone_entry (entry_at text start end d)) ∙ sym (ap alone q.is) ∙ g))
-      go (line.NoEntry m) h q g = h ∙ ap line.NoEntry (stops_same (sym (alone_bad m) ∙ sym (ap alone q) ∙ g)).0
+      go : (s : Result UnkEntry ℕ) → r ≡ s → SaysLine text start end (unk_line_of (drop start (take end text))) s → alone (unk_line_of (drop start (take end text))) ≡ stops n 1
+          → r ≡ Err n
+      go (Ok d) h q g = stops_entries (sym (sym (alone_entry (entry_at text start end d)) ∙ sym (ap alone q.is) ∙ g))
+      go (Err m) h q g = h ∙ ap Err (stops_same (sym (alone_bad m) ∙ sym (ap alone q) ∙ g)).0

@@ -1,12 +1,12 @@
 -- A line's entry from its fields and numbers: what the answer says is what the paper reads. Assumes nothing.
 use Prim.Native.Nat.{ℕ, ◌+◌, ◌%◌, ◌≤◌, ◌<◌}
 use native.Mathlib.Omega.{arith}
-use mathlib.Core.Path.{◌≡◌, refl, sym, ap, ap₂, ◌∙◌, subst}
+use mathlib.Core.Path.{◌≡◌, refl, sym, ap, ap₂, ◌∙◌}
 use mathlib.Core.Option.{Option, none, some}
 use mathlib.Core.List.{List, [], ◌∷◌}
 use lib.ListN.{length, take, drop, length-take}
 use Rattle.paper.specs.Sizes.{max_u32, max_i32, low_i32, line_fields}
-use Rattle.paper.specs.Refusals.{unk_fields}
+use Rattle.paper.specs.Refusals.{unk_fields, unk_number}
 use Rattle.paper.specs.Lists.{cut, is, join_with}
 use Rattle.paper.specs.Text.Scalar.{comma}
 use Rattle.paper.specs.Numbers.Numeral.{Integer, decimal, modulus16, wrap16}
@@ -15,31 +15,13 @@ use Rattle.paper.specs.Computed.Numeral.{numeral, signed_numeral}
 use Rattle.paper.specs.Computed.ReadUnk.{UnkFound, entry, no_entry, from_unk_numbers, from_fields, unk_line_of}
 use Rattle.paper.proofs.Apart.{zero_one}
 use Rattle.numeral.specs.Asked.{Least}
-use Rattle.numeral.specs.Said.{said_number, said_signed}
-use Rattle.numeral.specs.declared.Number.{Number}
-use Rattle.numeral.specs.declared.Number.TheVariants as number
+use Rattle.numeral.specs.Said.{said_signed}
 use Rattle.numeral.specs.declared.Signed.{Signed}
 use Rattle.unk_line.specs.Line.{SaysLine, joined_fields}
-use Rattle.unk_line.specs.Asked.{FourAre, FieldsAre, said_cost, kept_cost, entry_answer}
+use Rattle.unk_line.specs.Asked.{FourAre, FieldsAre, kept_cost}
 use Rattle.unk_line.specs.declared.FourFields.{FourFields}
-use Rattle.unk_line.specs.declared.Fields.{Fields}
-use Rattle.unk_line.specs.declared.Fields.TheVariants as fields
-use Rattle.unk_line.specs.declared.Cost.{Cost}
-use Rattle.unk_line.specs.declared.Cost.TheVariants as cost
-use Rattle.unk_line.specs.declared.UnkLine.{UnkLine}
-use Rattle.unk_line.specs.declared.UnkLine.TheVariants as line
 use Rattle.unk_line.proofs.Scan.{cut_at_end}
-
--- ---- the cases
-
-pub same_entry : (f : FourFields) {l l' r r' : Number} {c c' : Cost} → l ≡ l' → r ≡ r' → c ≡ c' → entry_answer f l' r' c' ≡ entry_answer f l r c
-same_entry f p q s = rw (p, q, s)
-
-pub same_cost : {s s' : Signed} → s ≡ s' → kept_cost (said_signed s') ≡ kept_cost (said_signed s)
-same_cost e = rw e
-
-pub fields_as : (text : List ℕ) (start end : ℕ) (s : Fields) {r : Fields} → r ≡ s → FieldsAre text start end r → FieldsAre text start end s
-fields_as text start end s e h = subst (FieldsAre text start end) e h
+use Rattle.std.specs.Prelude.{Err, None, Ok, Some}
 
 -- ---- under four
 
@@ -51,8 +33,8 @@ few_fields (a ∷ b ∷ []) h = refl
 few_fields (a ∷ b ∷ c ∷ []) h = refl
 few_fields (a ∷ b ∷ c ∷ d ∷ fs) h = absurd (omega arith)
 
-pub says_short : (text : List ℕ) (start end : ℕ) {stop : ℕ} → Least end (length text) stop → FieldsAre text start stop fields.UnderFour
-    → SaysLine text start end (unk_line_of (drop start (take end text))) (line.NoEntry unk_fields)
+pub says_short : (text : List ℕ) (start end : ℕ) {stop : ℕ} → Least end (length text) stop → FieldsAre text start stop None
+    → SaysLine text start end (unk_line_of (drop start (take end text))) (Err unk_fields)
 unfolding unk_line_of
 says_short text start end {stop} l h =
     ap (λ t. from_fields (cut (is comma) (drop start t))) (sym (cut_at_end text end l)) ∙ few_fields (cut (is comma) (drop start (take stop text))) h
@@ -78,36 +60,50 @@ module _ (text : List ℕ) (start end stop : ℕ) (w : Least end (length text) s
   inside : stop ≤ length (take end text)
   inside = let a = w.first in let b = w.second in simp length-take (omega arith)
 
-  says : (l r : Number) (c : Cost) (i : Option Integer) → said_cost c ≡ kept_cost i → found ≡ from_unk_numbers name_of (said_number l) (said_number r) i h.behind
-      → SaysLine text start end found (entry_answer f l r c)
-  says number.Bad r c i k e = e
-  says (number.Value l) number.Bad c i k e = e
-  says (number.Value l) (number.Value r) cost.Bad none k e = e
-  says (number.Value l) (number.Value r) cost.Bad (some i) k e = zero_one (cc)
-  says (number.Value l) (number.Value r) (cost.Kept n) none k e = zero_one (cc)
-  says (number.Value l) (number.Value r) (cost.Kept n) (some i) k e =
-      let m : wrap16 i ≡ n = cc in
-      let a = h.one in
-      let b = h.two in
-      let d = h.three in
-      let g = h.four in
-      let j = h.rest in
-      record {
-        is = e ∙ ap₂ (λ (x : ℕ) (y : List ℕ). entry (record { category = name_of; left = l % modulus16; right = r % modulus16; cost = x; details = y })) m joined_is;
-        from = h.from;
-        surface_inside = omega (arith, inside);
-        details_inside = omega (arith, inside);
-      }
+  by_numbers : {l r : Option ℕ} {i : Option Integer}
+      → numeral decimal max_u32 (drop (f.first + 1) (take f.second text)) ≡ l
+      → numeral decimal max_u32 (drop (f.second + 1) (take f.third text)) ≡ r
+      → signed_numeral decimal max_i32 low_i32 (drop (f.third + 1) (take f.fourth text)) ≡ i
+      → found ≡ from_unk_numbers name_of l r i h.behind
+  by_numbers {l} {r} p q t =
+      reads ∙ ap₂ (λ x y. from_unk_numbers name_of x y (signed_numeral decimal max_i32 low_i32 (drop (f.third + 1) (take f.fourth text))) h.behind) p q
+      ∙ ap (λ z. from_unk_numbers name_of l r z h.behind) t
 
-  pub says_four : (l r : Number) (s : Signed) (c : Cost) {a : UnkLine}
-      → said_number l ≡ numeral decimal max_u32 (drop (f.first + 1) (take f.second text))
-      → said_number r ≡ numeral decimal max_u32 (drop (f.second + 1) (take f.third text))
-      → said_signed s ≡ signed_numeral decimal max_i32 low_i32 (drop (f.third + 1) (take f.fourth text))
-      → said_cost c ≡ kept_cost (said_signed s) → a ≡ entry_answer f l r c
-      → SaysLine text start end (unk_line_of (drop start (take end text))) a
+  pub says_no_left : numeral decimal max_u32 (drop (f.first + 1) (take f.second text)) ≡ none → SaysLine text start end (unk_line_of (drop start (take end text))) (Err unk_number)
   unfolding found
-  says_four l r s c p q t k e =
-      subst (SaysLine text start end found) (sym e)
-      (says l r c (said_signed s) k
-      (reads ∙ ap₂ (λ x y. from_unk_numbers name_of x y (signed_numeral decimal max_i32 low_i32 (drop (f.third + 1) (take f.fourth text))) h.behind) (sym p) (sym q)
-      ∙ ap (λ z. from_unk_numbers name_of (said_number l) (said_number r) z h.behind) (sym t)))
+  says_no_left p = by_numbers p refl refl
+
+  module _ {l : ℕ} (p : numeral decimal max_u32 (drop (f.first + 1) (take f.second text)) ≡ some l) where
+    pub says_no_right : numeral decimal max_u32 (drop (f.second + 1) (take f.third text)) ≡ none → SaysLine text start end (unk_line_of (drop start (take end text))) (Err unk_number)
+    unfolding found
+    says_no_right q = by_numbers p q refl
+
+    module _ {r : ℕ} (q : numeral decimal max_u32 (drop (f.second + 1) (take f.third text)) ≡ some r) where
+      pub says_no_cost : signed_numeral decimal max_i32 low_i32 (drop (f.third + 1) (take f.fourth text)) ≡ none
+          → SaysLine text start end (unk_line_of (drop start (take end text))) (Err unk_number)
+      unfolding found
+      says_no_cost t = by_numbers p q t
+
+      pub says_four : (i : Signed) {n : ℕ} → signed_numeral decimal max_i32 low_i32 (drop (f.third + 1) (take f.fourth text)) ≡ said_signed (Some i)
+          → some n ≡ kept_cost (said_signed (Some i))
+          → SaysLine text start end (unk_line_of (drop start (take end text)))
+          (Ok (record { surface = f.first; left = l % modulus16; right = r % modulus16; cost = n; details = f.more }))
+      unfolding found
+      says_four i {n} t k = go (said_signed (Some i)) t k
+        where
+          go : (x : Option Integer) → signed_numeral decimal max_i32 low_i32 (drop (f.third + 1) (take f.fourth text)) ≡ x → some n ≡ kept_cost x
+              → SaysLine text start end found (Ok (record { surface = f.first; left = l % modulus16; right = r % modulus16; cost = n; details = f.more }))
+          go none t k = zero_one (cc)
+          go (some i) t k =
+              let m : wrap16 i ≡ n = cc in
+              let a = h.one in
+              let b = h.two in
+              let d = h.three in
+              let g = h.four in
+              let j = h.rest in
+              record {
+                is = by_numbers p q t ∙ ap₂ (λ (x : ℕ) (y : List ℕ). entry (record { category = name_of; left = l % modulus16; right = r % modulus16; cost = x; details = y })) m joined_is;
+                from = h.from;
+                surface_inside = omega (arith, inside);
+                details_inside = omega (arith, inside);
+              }

@@ -1,52 +1,36 @@
--- A scan for a byte: what it passed does not hold the byte. Assumes nothing.
-use Prim.Native.Nat.{ℕ, suc, ◌+◌, ◌≤◌, ◌<◌}
+-- The position of a byte is how many bytes stand before it; and a part that reaches past the text is cut at its end. Assumes nothing.
+use Prim.Native.Nat.{ℕ, ◌+◌}
 use native.Mathlib.Omega.{arith}
-use mathlib.Core.Path.{◌≡◌, refl, ap, ◌∙◌}
-use mathlib.Core.Bool.{cond}
-use mathlib.Core.List.{List, [], ◌∷◌}
-use lib.ListN.{length, take, drop, get_or}
-use borrow.Author.Tests.{eq-eqb, ne_eqb}
-use Rattle.paper.specs.Lists.{until, is}
-use Rattle.paper.proofs.Lists.Parts.{nothing, uncons, clamp}
+use mathlib.Core.Path.{◌≡◌, refl, sym, ap, ◌∙◌}
+use mathlib.Core.Bool.{Bool, true, false, cond}
+use mathlib.Core.List.{List, ◌∷◌, []}
+use lib.Dec.{ltb}
+use lib.ListN.{length, take}
+use borrow.Author.Tests.{ltb-false}
+use Rattle.std.specs.Prelude.{Option, Some, None}
+use Rattle.std.specs.Option.{unwrap_or}
+use Rattle.std.specs.List.{position_or_len}
+use Rattle.std.proofs.lemmas.List.Recursion.{is_position_or_len}
+use Rattle.paper.specs.Lists.{until}
+use Rattle.paper.proofs.Lists.Parts.{clamp}
 use Rattle.numeral.specs.Asked.{Least}
+use Rattle.unk_line.proofs.Commas.{until_length}
 
--- the part from `start` on goes on from `at`
-pub record Seeking (text : List ℕ) (start stop byte at : ℕ) : Type 0 where
-  pub order : start ≤ at
-  pub within : stop ≤ length text
-  pub goes : at + length (until (is byte) (drop at (take stop text))) ≡ start + length (until (is byte) (drop start (take stop text)))
+until_is : (p : ℕ → Bool) (l : List ℕ) → length (until p l) ≡ position_or_len p l
+until_is p = is_position_or_len (λ (l : List ℕ). length (until p l)) p refl (λ x xs. go x xs (p x))
+  where
+    go : (x : ℕ) (xs : List ℕ) (b : Bool) → length (cond b [] (x ∷ until p xs)) ≡ cond b 0 (1 + length (until p xs))
+    go x xs true = refl
+    go x xs false = omega arith
 
-pub seek_start : (text : List ℕ) (start stop byte : ℕ) → stop ≤ length text → Seeking text start stop byte start
-seek_start text start stop byte h = record { order = omega arith; within = h; goes = refl }
-
-module _ {text : List ℕ} {start stop byte at : ℕ} (z : Seeking text start stop byte at) where
-  pub seek_found : at < stop → get_or text at 0 ≡ byte → at ≡ start + length (until (is byte) (drop start (take stop text)))
-  seek_found h e =
-      let a : length (until (is byte) (drop at (take stop text))) ≡ 0
-      = ap (λ l. length (until (is byte) l)) (uncons text at stop h z.within)
-      ∙ ap (λ b. length (cond b [] (get_or text at 0 ∷ until (is byte) (drop (at + 1) (take stop text))))) (eq-eqb (get_or text at 0) byte e) in
-      let i = z.goes in
-      omega arith
-
-  pub seek_on : at < stop → (get_or text at 0 ≡ byte → ⊥) → Seeking text start stop byte (at + 1)
-  seek_on h n =
-      let a : length (until (is byte) (drop at (take stop text))) ≡ suc (length (until (is byte) (drop (at + 1) (take stop text))))
-      = ap (λ l. length (until (is byte) l)) (uncons text at stop h z.within)
-      ∙ ap (λ b. length (cond b [] (get_or text at 0 ∷ until (is byte) (drop (at + 1) (take stop text))))) (ne_eqb (get_or text at 0) byte n) in
-      let i = z.goes in
-      let o = z.order in
-      record { order = omega arith; within = z.within; goes = omega arith }
-
-  pub seek_end : stop ≤ at → at ≡ start + length (until (is byte) (drop start (take stop text)))
-  seek_end h =
-      let a : length (until (is byte) (drop at (take stop text))) ≡ 0 = ap (λ l. length (until (is byte) l)) (nothing text at stop h) in
-      let i = z.goes in
-      omega arith
+pub found_or_end : (p : ℕ → Bool) (l : List ℕ) {r : Option ℕ} → r ≡ cond (ltb (position_or_len p l) (length l)) (Some (position_or_len p l)) None
+    → unwrap_or r (length l) ≡ length (until p l)
+found_or_end p l e = ap (λ o. unwrap_or o (length l)) e ∙ go (ltb (position_or_len p l) (length l)) refl
+  where
+    go : (b : Bool) → ltb (position_or_len p l) (length l) ≡ b → unwrap_or (cond b (Some (position_or_len p l)) None) (length l) ≡ length (until p l)
+    go true e = sym (until_is p l)
+    go false e = let h = ltb-false (position_or_len p l) (length l) e in omega (arith, until_is p l, until_length p l)
 
 -- a part that reaches past the text is cut at its end
 pub cut_at_end : (text : List ℕ) (end : ℕ) {r : ℕ} → Least end (length text) r → take r text ≡ take end text
 cut_at_end text end {r} l = clamp text end r l.one l.other l.first
-
-pub whole_part : (text : List ℕ) (start end byte : ℕ) {r : ℕ} → Least end (length text) r
-    → start + length (until (is byte) (drop start (take r text))) ≡ start + length (until (is byte) (drop start (take end text)))
-whole_part text start end byte l = ap (λ t. start + length (until (is byte) (drop start t))) (cut_at_end text end l)

@@ -1,23 +1,20 @@
 -- What the functions inside this crate promise of a line's fields and numbers.
 -- Assumes nothing.
-use Rattle.std.specs.Prelude.{ℕ, ◌+◌, ◌%◌, ◌≤◌, ◌<◌, ◌≡◌, List, ◌∷◌, length, take, drop}
+use Rattle.std.specs.Prelude.{ℕ, ◌+◌, ◌≤◌, ◌<◌, ◌≡◌, List, ◌∷◌, length, take, drop}
 use Rattle.std.proofs.Math.Option.{Option, none, some}
 use Rattle.paper.specs.Sizes.{line_fields}
-use Rattle.paper.specs.Lists.{cut, is, join_with}
+use Rattle.paper.specs.Lists.{until, cut, is, join_with}
 use Rattle.paper.specs.Text.Scalar.{comma}
-use Rattle.paper.specs.Refusals.{unk_number}
-use Rattle.paper.specs.Numbers.Numeral.{Integer, modulus16, wrap16}
+use Rattle.paper.specs.Numbers.Numeral.{Integer, wrap16}
 use Rattle.paper.specs.Unk.Entry.{nul}
-use Rattle.numeral.specs.declared.Number.{Number}
-use Rattle.numeral.specs.declared.Number.TheVariants as number
 use Rattle.unk_line.specs.Line.{joined_fields}
 use Rattle.unk_line.specs.declared.FourFields.{FourFields}
-use Rattle.unk_line.specs.declared.Fields.{Fields}
-use Rattle.unk_line.specs.declared.Fields.TheVariants as fields
-use Rattle.unk_line.specs.declared.Cost.{Cost}
-use Rattle.unk_line.specs.declared.Cost.TheVariants as cost
-use Rattle.unk_line.specs.declared.UnkLine.{UnkLine}
-use Rattle.unk_line.specs.declared.UnkLine.TheVariants as line
+use Rattle.std.specs.Prelude.{None, Some}
+use Rattle.std.specs.Prelude as code
+
+-- where the commas of a line are sought
+abbrev pub comma_at : List ℕ → ℕ → ℕ → ℕ
+comma_at text start end = start + length (until (is comma) (drop start (take end text)))
 
 -- the fields of a line from `start` to `end`: the first four, and those behind them
 pub record FourAre (text : List ℕ) (start end : ℕ) (f : FourFields) : Type 0 where
@@ -36,25 +33,16 @@ pub record FourAre (text : List ℕ) (start end : ℕ) (f : FourFields) : Type 0
   pub four : f.fourth ≤ end
   pub rest : f.more ≤ end
 
-abbrev pub FieldsAre : List ℕ → ℕ → ℕ → Fields → Type 0
-FieldsAre text start end (fields.Four f) = FourAre text start end f
-FieldsAre text start end fields.UnderFour = length (cut (is comma) (drop start (take end text))) < line_fields
+abbrev pub FieldsAre : List ℕ → ℕ → ℕ → code.Option FourFields → Type 0
+FieldsAre text start end (Some f) = FourAre text start end f
+FieldsAre text start end None = length (cut (is comma) (drop start (take end text))) < line_fields
 
--- ---- numbers
-
-abbrev pub said_cost : Cost → Option ℕ
-said_cost (cost.Kept n) = some n
-said_cost cost.Bad = none
+-- the place of the next comma; or none stands there
+abbrev pub CommaAt : List ℕ → ℕ → ℕ → code.Option ℕ → Type 0
+CommaAt text start end (Some at) = (at ≡ comma_at text start end) × (at < end)
+CommaAt text start end None = end ≤ comma_at text start end
 
 -- "cost modulo 65,536 as a signed 16-bit number"
 abbrev pub kept_cost : Option Integer → Option ℕ
 kept_cost none = none
 kept_cost (some i) = some (wrap16 i)
-
--- the entry of a line's places and numbers: 24 where one is unreadable
-abbrev pub entry_answer : FourFields → Number → Number → Cost → UnkLine
-entry_answer f number.Bad right c = line.NoEntry unk_number
-entry_answer f (number.Value l) number.Bad c = line.NoEntry unk_number
-entry_answer f (number.Value l) (number.Value r) cost.Bad = line.NoEntry unk_number
-entry_answer f (number.Value l) (number.Value r) (cost.Kept c) =
-    line.Entry (record { surface = f.first; left = l % modulus16; right = r % modulus16; cost = c; details = f.more })

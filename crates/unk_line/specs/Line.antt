@@ -7,8 +7,7 @@ use Rattle.paper.specs.Numbers.Bytes.{le}
 use Rattle.paper.specs.Unk.Entry.{Entry, nul, length_bytes}
 use Rattle.paper.specs.Computed.ReadUnk.{UnkFound, entry, no_entry}
 use Rattle.unk_line.specs.declared.UnkEntry.{UnkEntry}
-use Rattle.unk_line.specs.declared.UnkLine.{UnkLine}
-use Rattle.unk_line.specs.declared.UnkLine.TheVariants as line
+use Rattle.std.specs.Prelude.{Err, Ok, Result}
 
 -- "Details are the remaining fields joined by NUL"
 abbrev pub joined_fields : List ℕ → List ℕ
@@ -40,6 +39,6 @@ pub record SaysEntry (text : List ℕ) (start end : ℕ) (found : UnkFound) (e :
   pub surface_inside : e.surface ≤ length (take end text)
   pub details_inside : e.details ≤ length (take end text)
 
-abbrev pub SaysLine : List ℕ → ℕ → ℕ → UnkFound → UnkLine → Type 0
-SaysLine text start end found (line.Entry e) = SaysEntry text start end found e
-SaysLine text start end found (line.NoEntry n) = found ≡ no_entry n
+abbrev pub SaysLine : List ℕ → ℕ → ℕ → UnkFound → Result UnkEntry ℕ → Type 0
+SaysLine text start end found (Ok e) = SaysEntry text start end found e
+SaysLine text start end found (Err n) = found ≡ no_entry n

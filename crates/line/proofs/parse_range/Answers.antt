@@ -1,50 +1,33 @@
 -- `line::parse_range` meets its contract: the first word's parts are one, two, or too many.
 -- Assumes nothing.
-use Rattle.line.proofs.Lines.{no_bounds, one_bound, two_bounds, more_bounds}
-use Rattle.line.proofs.Steps.{cut, uncut}
 use native.Mathlib.Omega.{arith}
+use Rattle.std.proofs.lemmas.Result.{err_from_is_err_and}
+use Rattle.line.proofs.Lines.{no_bounds, bad_bound, one_bound, bad_lower, bad_upper, two_bounds, more_bounds}
 use Rattle.line.proofs.parse_range.Goals as goal
 
-pub returns-then-stop-first : goal.returns-then-stop-first
-returns-then-stop-first c = no_bounds (c.next_word-w.ensures) (omega arith)
+pub returns-then-bounds : goal.returns-then-bounds
+returns-then-bounds c = no_bounds c.next_word-bounds.ensures (omega arith)
 
-pub find_dots-requires : goal.find_dots-requires
-find_dots-requires c = record { order = omega arith; within = c.next_word-w.ensures.inside (omega arith) }
+pub returns-in_err-both : goal.returns-in_err-both
+returns-in_err-both c =
+    let p = err_from_is_err_and c.from_residual.result c.from_residual.ensures.1 in
+    rw (p.1, p.2) (bad_bound c.next_word-bounds.ensures (omega arith) c.in_default.ensures c.in_err-both.ensures)
 
-pub overflow_add-at : goal.overflow_add-at
-overflow_add-at c =
-    let n = c.next_word-w.ensures in
-    let k = cut (c.in-At.is) (c.find_dots.ensures) in
-    omega (arith, n.inside (omega arith))
+pub returns-in_default : goal.returns-in_default
+returns-in_default c = one_bound c.next_word-bounds.ensures (omega arith) c.in_default.ensures c.in_ok-both.ensures
 
-pub find_dots-requires-in-At : goal.find_dots-requires-in-At
-find_dots-requires-in-At c =
-    let k = cut (c.in-At.is) (c.find_dots.ensures) in
-    record { order = k.within; within = c.next_word-w.ensures.inside (omega arith) }
+pub returns-in_default-find_dots : goal.returns-in_default-find_dots
+returns-in_default-find_dots c = more_bounds c.next_word-bounds.ensures (omega arith) c.in-Some.ensures c.in_default-find_dots.ensures
 
-pub overflow_add-at-in-Nowhere-find_dots : goal.overflow_add-at-in-Nowhere-find_dots
-overflow_add-at-in-Nowhere-find_dots c =
-    let n = c.next_word-w.ensures in
-    let k = cut (c.in-At.is) (c.find_dots.ensures) in
-    omega (arith, n.inside (omega arith))
+pub returns-in_err-lower : goal.returns-in_err-lower
+returns-in_err-lower c =
+    let p = err_from_is_err_and c.from_residual-in_err-lower.result c.from_residual-in_err-lower.ensures.1 in
+    rw (p.1, p.2) (bad_lower c.next_word-bounds.ensures (omega arith) c.in-Some.ensures c.in-None.ensures c.in_err-lower.ensures)
 
-pub returns-in-Nowhere : goal.returns-in-Nowhere
-returns-in-Nowhere c =
-    one_bound (c.next_word-w.ensures) (omega arith) (c.parse_hex_codepoint-b.result)
-    (uncut (c.in-Nowhere.is) (c.find_dots.ensures))
-    (c.parse_hex_codepoint-b.ensures)
-    (c.range_of.ensures)
+pub returns-in_err-upper : goal.returns-in_err-upper
+returns-in_err-upper c =
+    let p = err_from_is_err_and c.from_residual-in_err-upper.result c.from_residual-in_err-upper.ensures.1 in
+    rw (p.1, p.2) (bad_upper c.next_word-bounds.ensures (omega arith) c.in-Some.ensures c.in-None.ensures c.in_ok-lower.ensures c.in_err-upper.ensures)
 
-pub returns-in-At-find_dots : goal.returns-in-At-find_dots
-returns-in-At-find_dots c =
-    more_bounds (c.next_word-w.ensures) (omega arith)
-    (cut (c.in-At.is) (c.find_dots.ensures))
-    (cut (c.in-At-find_dots.is) (c.find_dots-in-At.ensures))
-
-pub returns-in-Nowhere-find_dots : goal.returns-in-Nowhere-find_dots
-returns-in-Nowhere-find_dots c =
-    two_bounds (c.next_word-w.ensures) (omega arith)
-    (cut (c.in-At.is) (c.find_dots.ensures))
-    (c.parse_hex_codepoint-lower.result) (c.parse_hex_codepoint-upper.result)
-    (uncut (c.in-Nowhere-find_dots.is) (c.find_dots-in-At.ensures))
-    (c.parse_hex_codepoint-lower.ensures) (c.parse_hex_codepoint-upper.ensures) (c.range_of-in-Nowhere-find_dots.ensures)
+pub returns : goal.returns
+returns c = two_bounds c.next_word-bounds.ensures (omega arith) c.in-Some.ensures c.in-None.ensures c.in_ok-lower.ensures c.in_ok-upper.ensures

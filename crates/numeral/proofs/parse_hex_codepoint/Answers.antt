@@ -1,32 +1,28 @@
--- `parse_hex_codepoint`: what `past_0x` leaves is read as a 16-bit hex numeral, and its code checked.
+-- `parse_hex_codepoint`: what stands behind every `0x` is read as a 16-bit hex numeral, and its code checked.
 -- Assumes nothing.
 use native.Mathlib.Omega.{arith}
-use mathlib.Core.Path.{sym, ap, ◌∙◌}
+use mathlib.Core.Path.{◌≡◌, sym, ap, ◌∙◌}
 use mathlib.Core.Option.{none}
+use Rattle.std.proofs.lemmas.Result.{err_from_is_err_and}
+use Rattle.paper.specs.Refusals.{bound_unreadable}
 use Rattle.numeral.specs.Said.{said_number}
 use Rattle.numeral.proofs.Bounds.{no_code, code_small, bound_of_lem}
-use Rattle.numeral.proofs.Digits.{cut_at_end}
 use Rattle.numeral.proofs.parse_hex_codepoint.Goals as goal
 
+pub returns-in_err-code : goal.returns-in_err-code
+returns-in_err-code c =
+    let p = err_from_is_err_and c.from_residual.result c.from_residual.ensures.1 in
+    let number : c.in_err-code.field-0.0 ≡ bound_unreadable = grind (arith, c.in_err-code.ensures.value, c.in_err-code.ensures.ok_part) in
+    rw (p.1, p.2, number)
+    (no_code
+    ∙ bound_of_lem _ c.loop-rest.number.now none c.loop-rest.invariant c.in_default.ensures.cases
+    (sym (ap said_number c.in_err-code.ensures.ok_part) ∙ c.parse_number.ensures))
+
 pub overflow_cast-code : goal.overflow_cast-code
-overflow_cast-code c = omega (arith, code_small _ _ (ap said_number (sym c.in-Value.is) ∙ c.parse_number.ensures))
+overflow_cast-code c = omega (arith, code_small _ _ (sym (ap said_number c.in_ok-code.ensures.ok_part) ∙ c.parse_number.ensures))
 
-pub returns-in-Value : goal.returns-in-Value
-returns-in-Value c =
-    let a = c.args in
-    let x = c.past_0x-at in
-    let l = a.text.now in
-    let e = cut_at_end l a.end c.least-stop.ensures in
+pub returns : goal.returns
+returns c =
     c.ucs2_to_unicode.ensures
-    ∙ bound_of_lem l a.start a.end c.least-stop.result x.result _ e x.ensures
-    (ap said_number (sym c.in-Value.is) ∙ c.parse_number.ensures)
-
-pub returns-in-Bad : goal.returns-in-Bad
-returns-in-Bad c =
-    let a = c.args in
-    let x = c.past_0x-at in
-    let l = a.text.now in
-    let e = cut_at_end l a.end c.least-stop.ensures in
-    no_code
-    ∙ bound_of_lem l a.start a.end c.least-stop.result x.result none e x.ensures
-    (ap said_number (sym c.in-Bad.is) ∙ c.parse_number.ensures)
+    ∙ bound_of_lem _ c.loop-rest.number.now _ c.loop-rest.invariant c.in_default.ensures.cases
+    (sym (ap said_number c.in_ok-code.ensures.ok_part) ∙ c.parse_number.ensures)

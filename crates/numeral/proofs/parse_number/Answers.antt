@@ -1,26 +1,13 @@
--- `parse_number`: a `+` in front is passed over once, and digits are read. An empty part has no `+`.
+-- `parse_number`: a `+` in front is passed over once, and digits are read.
 -- Assumes nothing.
-use native.Mathlib.Omega.{arith}
-use mathlib.Core.Path.{sym, ◌∙◌}
-use Prim.Native.Nat.{◌≤◌}
-use Rattle.numeral.proofs.Digits.{plus_sign_lem, no_sign, no_digits, no_number}
-use Rattle.numeral.proofs.parse_number.Goals.{else-start-end-via-then-start-end+else-text-start-eq43, else-start-end-via-else-start-end}
+use Rattle.std.proofs.Common.{ℕ, List, refl, ap, ◌∙◌}
+use denote.Ref.{Bor}
+use Rattle.paper.specs.Computed.Numeral.{spelled_by}
+use Rattle.numeral.proofs.Digits.{plus_taken}
 use Rattle.numeral.proofs.parse_number.Goals as goal
-
-pub returns-then-text-start-eq43 : goal.returns-then-text-start-eq43
-returns-then-text-start-eq43 c =
-    let a = c.args in
-    let l = a.text.now in
-    c.parse_digits.ensures ∙ sym (plus_sign_lem l a.base a.limit a.start a.end (omega arith) (omega arith) c.if-text-start-eq43.true)
 
 pub returns : goal.returns
 returns c =
     let a = c.args in
-    let l = a.text.now in
-    elim c.else-start-end.branch [
-      | else-start-end-via-then-start-end+else-text-start-eq43 w ↦
-          c.parse_digits-2.ensures ∙ sym (no_sign l a.base a.limit a.start a.end (omega arith) (omega arith) w.if-text-start-eq43.false)
-      | else-start-end-via-else-start-end w ↦
-          let none_left : a.end ≤ a.start = omega arith in
-          c.parse_digits-2.ensures ∙ no_digits a.base a.limit l a.start a.end none_left ∙ sym (no_number a.base a.limit l a.start a.end none_left)
-    ]
+    c.parse_digits.ensures ∙ ap (λ (x : Bor (List ℕ)). spelled_by a.base a.limit x.now) c.unwrap_or.ensures
+    ∙ plus_taken a.base a.limit a.number.now a.number refl c.strip_prefix.result c.strip_prefix.ensures.cases

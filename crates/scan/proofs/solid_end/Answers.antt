@@ -22,23 +22,23 @@ returns-then-b-eq35 c =
     (solid_stop l i a.end n 0 (width_hash l i a.end (omega arith) (omega arith) (c.if-b-eq35.true)) (omega arith) (omega arith) refl (c.if-b-eq35.true))
     ∙ h
 
-pub loop-at-preserved-then-is_gap : goal.loop-at-preserved-then-is_gap
-loop-at-preserved-then-is_gap c =
+pub loop-at-preserved-else-not-is_gap : goal.loop-at-preserved-else-not-is_gap
+loop-at-preserved-else-not-is_gap c =
     let a = c.args in
     let l = a.text.now in
     let i = c.loop-at.at in
     let n = c.loop-at.last in
     let h = c.loop-at.invariant.1 in
-    (omega arith, sym (solid_skip l i a.end n 1 (width_ascii l i a.end true (omega arith) (omega arith) (omega arith) (c.is_gap.ensures) (c.if-is_gap.true)) (omega arith) (omega arith)) ∙ h)
+    (omega arith, sym (solid_skip l i a.end n 1 (width_ascii l i a.end true (omega arith) (omega arith) (omega arith) (c.is_gap.ensures) c.if-not-is_gap.false) (omega arith) (omega arith)) ∙ h)
 
-pub loop-at-preserved-else-is_gap : goal.loop-at-preserved-else-is_gap
-loop-at-preserved-else-is_gap c =
+pub loop-at-preserved-then-not-is_gap : goal.loop-at-preserved-then-not-is_gap
+loop-at-preserved-then-not-is_gap c =
     let a = c.args in
     let l = a.text.now in
     let i = c.loop-at.at in
     let n = c.loop-at.last in
     let h = c.loop-at.invariant.1 in
-    (omega arith, sym (solid_step l i a.end n 0 (width_ascii l i a.end true (omega arith) (omega arith) (omega arith) (c.is_gap.ensures) (c.if-is_gap.false)) (omega arith) (omega arith) refl (c.if-b-eq35.false)) ∙ h)
+    (omega arith, sym (solid_step l i a.end n 0 (width_ascii l i a.end true (omega arith) (omega arith) (omega arith) (c.is_gap.ensures) c.if-not-is_gap.true) (omega arith) (omega arith) refl (c.if-b-eq35.false)) ∙ h)
 
 pub wide_gap-w-requires : goal.wide_gap-w-requires
 wide_gap-w-requires c = record { here = omega arith; within = omega arith; high = omega arith }

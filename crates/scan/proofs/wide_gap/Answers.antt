@@ -16,20 +16,20 @@ pub returns-in_default : goal.returns-in_default
 returns-in_default c =
     let a = c.args in
     width_other a.text.now a.at a.end a.white (omega arith) (omega arith) (omega arith) (λ i. omega arith)
-    (inl (omega arith)) (c.if-white.true)
+    (inl (omega arith)) c.if-not-white.false
 
 pub returns-in_default-2 : goal.returns-in_default-2
 returns-in_default-2 c =
     let a = c.args in
     width_other a.text.now a.at a.end a.white (omega arith) (omega arith) (omega arith) (λ i. omega arith)
-    (inr (omega arith)) (c.if-white.true)
+    (inr (omega arith)) c.if-not-white.false
 
 pub returns-in-194 : goal.returns-in-194
 returns-in-194 c =
     let a = c.args in
-    width_white a.text.now a.at a.end a.white (c.if-white.true) (c.white_width.ensures)
+    width_white a.text.now a.at a.end a.white c.if-not-white.false (c.white_width.ensures)
 
-pub returns : goal.returns
-returns c =
+pub returns-then-not-white : goal.returns-then-not-white
+returns-then-not-white c =
     let a = c.args in
-    width_none a.text.now a.at a.end a.white (omega arith) (omega arith) (omega arith) (c.if-white.false)
+    width_none a.text.now a.at a.end a.white (omega arith) (omega arith) (omega arith) c.if-not-white.true

@@ -1,6 +1,6 @@
 -- `scan::word_end` meets its contract: the word that is left ends where the word does.
 -- Assumes nothing.
-use Prim.Native.Nat.{◌+◌, ◌-◌, ◌≤◌}
+use Prim.Native.Nat.{◌+◌, ◌≤◌}
 use mathlib.Core.Path.{◌≡◌}
 use lib.ListN.{length, take, drop}
 use Rattle.scan.specs.Answer.{word_run}
@@ -10,6 +10,3 @@ abbrev pub invariant-loop-at : goal.invariant-loop-at
 invariant-loop-at l =
     (l.at ≤ l.end)
     × (l.at + length (word_run l.white (drop l.at (take l.end l.text))) ≡ l.start + length (word_run l.white (drop l.start (take l.end l.text))))
-
-abbrev pub decreases-loop-at : goal.decreases-loop-at
-decreases-loop-at l = l.end - l.at

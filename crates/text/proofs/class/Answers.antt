@@ -3,4 +3,4 @@
 use Rattle.text.proofs.class.Goals as goal
 
 pub returns : goal.returns
-returns c = c.requires.entry c.args.b c.ranges.b.fits
+returns c = rw c.from.ensures (c.requires.entry c.args.b c.ranges.b.fits)

@@ -11,24 +11,18 @@ use Rattle.text.proofs.White.{run, no_white}
 use Rattle.text.proofs.is_white_space.Goals as goal
 
 -- what the `match` tests number by number
-abbrev Early : ℕ → Type 0
-Early c = (c ≡ 0x20) ⊎ ((c ≡ 0x85) ⊎ ((c ≡ 0xA0) ⊎ (c ≡ 0x1680)))
+abbrev Single : ℕ → Type 0
+Single c = (c ≡ 0x20) ⊎ ((c ≡ 0x85) ⊎ ((c ≡ 0xA0) ⊎ ((c ≡ 0x1680) ⊎ ((c ≡ 0x202F) ⊎ ((c ≡ 0x205F) ⊎ (c ≡ 0x3000))))))
 
-abbrev Late : ℕ → Type 0
-Late c = (c ≡ 0x202F) ⊎ ((c ≡ 0x205F) ⊎ (c ≡ 0x3000))
-
-early : {c : ℕ} → Early c → is_white c ≡ true
+single : {c : ℕ} → Single c → is_white c ≡ true
 unfolding is_white
-early (inl e) = ap is_white e
-early (inr (inl e)) = ap is_white e
-early (inr (inr (inl e))) = ap is_white e
-early (inr (inr (inr e))) = ap is_white e
-
-late : {c : ℕ} → Late c → is_white c ≡ true
-unfolding is_white
-late (inl e) = ap is_white e
-late (inr (inl e)) = ap is_white e
-late (inr (inr e)) = ap is_white e
+single (inl e) = ap is_white e
+single (inr (inl e)) = ap is_white e
+single (inr (inr (inl e))) = ap is_white e
+single (inr (inr (inr (inl e)))) = ap is_white e
+single (inr (inr (inr (inr (inl e))))) = ap is_white e
+single (inr (inr (inr (inr (inr (inl e)))))) = ap is_white e
+single (inr (inr (inr (inr (inr (inr e)))))) = ap is_white e
 
 -- and run by run
 controls : {c : ℕ} → In 0x9 0xD c → is_white c ≡ true
@@ -43,66 +37,30 @@ separators : {c : ℕ} → In 0x2028 0x2029 c → is_white c ≡ true
 unfolding is_white
 separators i = run 0x2028 2 tt i.from (omega arith)
 
-not_white : (c : ℕ) → (Early c → ⊥) → (Late c → ⊥) → (In 0x9 0xD c → ⊥) → (In 0x2000 0x200A c → ⊥) → (In 0x2028 0x2029 c → ⊥) → is_white c ≡ false
-not_white c k l r s t =
-    no_white c (
-      r,
-      (
-        (λ i. k (inl (omega arith))),
-        (
-          (λ i. k (inr (inl (omega arith)))),
-          (
-            (λ i. k (inr (inr (inl (omega arith))))),
-            (
-              (λ i. k (inr (inr (inr (omega arith))))),
-              (
-                s,
-                (
-                  (λ i. t (omega arith)),
-                  (
-                    (λ i. t (omega arith)),
-                    (
-                      (λ i. l (inl (omega arith))),
-                      (
-                        (λ i. l (inr (inl (omega arith)))),
-                        (
-                          (λ i. l (inr (inr (omega arith)))),
-                          tt,
-                        ),
-                      ),
-                    ),
-                  ),
-                ),
-              ),
-            ),
-          ),
-        ),
-      ),
-    )
+not_white : (c : ℕ) → (Single c → ⊥) → (In 0x9 0xD c → ⊥) → (In 0x2000 0x200A c → ⊥) → (In 0x2028 0x2029 c → ⊥) → is_white c ≡ false
+not_white c k r s t =
+    no_white c (r, ((λ i. k (inl (omega arith))), ((λ i. k (inr (inl (omega arith)))), ((λ i. k (inr (inr (inl (omega arith))))), ((λ i. k (inr (inr (inr (inl (omega arith)))))), (s, ((λ i. t (omega arith)), ((λ i. t (omega arith)), ((λ i. k (inr (inr (inr (inr (inl (omega arith))))))), ((λ i. k (inr (inr (inr (inr (inr (inl (omega arith)))))))), ((λ i. k (inr (inr (inr (inr (inr (inr (omega arith)))))))), tt)))))))))))
 
 pub returns-in_default : goal.returns-in_default
-returns-in_default c = sym (not_white c.args.c (λ k. omega arith) (λ k. omega arith) (λ i. omega arith) (λ i. omega arith) (λ i. omega arith))
+returns-in_default c = sym (not_white c.args.c (λ k. omega arith) (λ i. omega arith) (λ i. omega arith) (λ i. omega arith))
 
 pub returns-in_default-2 : goal.returns-in_default-2
-returns-in_default-2 c = sym (not_white c.args.c (λ k. omega arith) (λ k. omega arith) (λ i. omega arith) (λ i. omega arith) (λ i. omega arith))
+returns-in_default-2 c = sym (not_white c.args.c (λ k. omega arith) (λ i. omega arith) (λ i. omega arith) (λ i. omega arith))
 
 pub returns-in_default-3 : goal.returns-in_default-3
-returns-in_default-3 c = sym (not_white c.args.c (λ k. omega arith) (λ k. omega arith) (λ i. omega arith) (λ i. omega arith) (λ i. omega arith))
+returns-in_default-3 c = sym (not_white c.args.c (λ k. omega arith) (λ i. omega arith) (λ i. omega arith) (λ i. omega arith))
 
 pub returns-in_default-4 : goal.returns-in_default-4
-returns-in_default-4 c = sym (not_white c.args.c (λ k. omega arith) (λ k. omega arith) (λ i. omega arith) (λ i. omega arith) (λ i. omega arith))
-
-pub returns-in-8232 : goal.returns-in-8232
-returns-in-8232 c = sym (late c.in-8232.is)
-
-pub returns-in-8232-2 : goal.returns-in-8232-2
-returns-in-8232-2 c = sym (separators (omega arith))
+returns-in_default-4 c = sym (not_white c.args.c (λ k. omega arith) (λ i. omega arith) (λ i. omega arith) (λ i. omega arith))
 
 pub returns-in-9-to-13 : goal.returns-in-9-to-13
-returns-in-9-to-13 c = sym (early (search rules))
+returns-in-9-to-13 c = sym (single (search rules))
 
 pub returns-in-9-to-13-2 : goal.returns-in-9-to-13-2
 returns-in-9-to-13-2 c = sym (controls (omega arith))
 
 pub returns-in-9-to-13-3 : goal.returns-in-9-to-13-3
 returns-in-9-to-13-3 c = sym (quads (omega arith))
+
+pub returns-in-9-to-13-4 : goal.returns-in-9-to-13-4
+returns-in-9-to-13-4 c = sym (separators (omega arith))

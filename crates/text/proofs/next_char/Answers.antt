@@ -9,4 +9,4 @@ use Rattle.text.proofs.next_char.Goals as goal
 pub returns-then-a-lt128 : goal.returns-then-a-lt128
 returns-then-a-lt128 c =
     let a = c.args in
-    answers a.s.now a.at _ c.if-s-at.false refl (dec_1 _ _ (omega arith))
+    rw c.from.ensures (answers a.s.now a.at _ c.if-s-at.false refl (dec_1 _ _ (omega arith)))

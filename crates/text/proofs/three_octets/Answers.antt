@@ -1,11 +1,11 @@
 -- `text::three_octets` meets its contract: at each return the tests decide what the decoder says.
 -- Assumes nothing.
-use native.Mathlib.Omega.{arith}
 use Prim.Native.Nat.{◌+◌}
 use mathlib.Core.Path.{refl, sym, ap, ◌∙◌}
 use mathlib.Core.Bool.{true, false}
 use Rattle.text.specs.Answers.{next_by}
 use Rattle.text.proofs.Octets.{is_tail_lem, no_tail, too_low, too_high, just_so, three_ends, three_by}
+use Rattle.text.proofs.three_octets.Goals.{then-b-low-via-then-b-low, then-b-low-via-else-b-low+then-high-b, then-b-low-via-else-b-low+else-high-b+then-class-ne-TAIL}
 use Rattle.text.proofs.three_octets.Goals as goal
 
 pub returns-then-s-at-lt3 : goal.returns-then-s-at-lt3
@@ -16,32 +16,19 @@ returns-then-s-at-lt3 c =
 pub returns-then-b-low : goal.returns-then-b-low
 returns-then-b-low c =
     let a = c.args in
-    ap (next_by a.at) (sym (three_by a.s.now a.at c.if-s-at-lt3.false false _ (too_low c.requires.second c.if-b-low.true) refl))
-
-pub returns-then-high-b : goal.returns-then-high-b
-returns-then-high-b c =
-    let a = c.args in
-    ap (next_by a.at) (sym (three_by a.s.now a.at c.if-s-at-lt3.false false _ (too_high c.requires.second c.if-high-b.true) refl))
-
-pub returns-then-class-ne-TAIL : goal.returns-then-class-ne-TAIL
-returns-then-class-ne-TAIL c =
-    let a = c.args in
-    let second = just_so c.requires.second c.if-b-low.false c.if-high-b.false in
-    let third = no_tail (c.shared_slice_known-4-1.given (a.at + 2)).fits (λ e. c.if-class-ne-TAIL.true (c.class.ensures ∙ e)) in
-    ap (next_by a.at) (sym (three_by a.s.now a.at c.if-s-at-lt3.false true false second third))
-
-pub overflow_cast-result : goal.overflow_cast-result
-overflow_cast-result c = omega (arith, c.shared_slice_known-2-1.given c.args.at)
-
-pub overflow_cast-result-2 : goal.overflow_cast-result-2
-overflow_cast-result-2 c = omega (arith, c.shared_slice_known-3-1.given (c.args.at + 1))
-
-pub overflow_cast-result-3 : goal.overflow_cast-result-3
-overflow_cast-result-3 c = omega (arith, c.shared_slice_known-4-1.given (c.args.at + 2))
+    let by = three_by a.s.now a.at c.if-s-at-lt3.false in
+    elim c.then-b-low.branch [
+      | then-b-low-via-then-b-low w ↦ ap (next_by a.at) (sym (by false _ (too_low c.requires.second w.if-b-low.true) refl))
+      | then-b-low-via-else-b-low+then-high-b w ↦ ap (next_by a.at) (sym (by false _ (too_high c.requires.second w.if-high-b.true) refl))
+      | then-b-low-via-else-b-low+else-high-b+then-class-ne-TAIL w ↦
+          let second = just_so c.requires.second w.if-b-low.false w.if-high-b.false in
+          let third = no_tail (c.type_inv.s (a.at + 2)).fits (λ e. w.if-class-ne-TAIL.true (w.class.ensures ∙ e)) in
+          ap (next_by a.at) (sym (by true false second third))
+    ]
 
 pub returns : goal.returns
 returns c =
     let a = c.args in
     let second = just_so c.requires.second c.if-b-low.false c.if-high-b.false in
-    let third = is_tail_lem (c.shared_slice_known-4-1.given (a.at + 2)).fits (sym c.class.ensures ∙ c.if-class-ne-TAIL.false) in
-    ap (next_by a.at) (sym (three_by a.s.now a.at c.if-s-at-lt3.false true true second third))
+    let third = is_tail_lem (c.type_inv.s (a.at + 2)).fits (sym c.class.ensures ∙ c.if-class-ne-TAIL.false) in
+    rw (c.from.ensures, c.from-2.ensures, c.from-3.ensures) (ap (next_by a.at) (sym (three_by a.s.now a.at c.if-s-at-lt3.false true true second third)))

@@ -1,6 +1,5 @@
 -- `text::two_octets` meets its contract: at each return the tests decide what the decoder says.
 -- Assumes nothing.
-use native.Mathlib.Omega.{arith}
 use Prim.Native.Nat.{◌+◌}
 use mathlib.Core.Path.{sym, ap, ◌∙◌}
 use mathlib.Core.Bool.{true, false}
@@ -16,17 +15,11 @@ returns-then-s-at-lt2 c =
 pub returns-then-class-ne-TAIL : goal.returns-then-class-ne-TAIL
 returns-then-class-ne-TAIL c =
     let a = c.args in
-    let second = no_tail (c.shared_slice_known-3-1.given (a.at + 1)).fits (λ e. c.if-class-ne-TAIL.true (c.class.ensures ∙ e)) in
+    let second = no_tail (c.type_inv.s (a.at + 1)).fits (λ e. c.if-class-ne-TAIL.true (c.class.ensures ∙ e)) in
     ap (next_by a.at) (sym (two_by a.s.now a.at c.if-s-at-lt2.false false second))
-
-pub overflow_cast-result : goal.overflow_cast-result
-overflow_cast-result c = omega (arith, c.shared_slice_known-2-1.given c.args.at)
-
-pub overflow_cast-result-2 : goal.overflow_cast-result-2
-overflow_cast-result-2 c = omega (arith, c.shared_slice_known-3-1.given (c.args.at + 1))
 
 pub returns : goal.returns
 returns c =
     let a = c.args in
-    let second = is_tail_lem (c.shared_slice_known-3-1.given (a.at + 1)).fits (sym c.class.ensures ∙ c.if-class-ne-TAIL.false) in
-    ap (next_by a.at) (sym (two_by a.s.now a.at c.if-s-at-lt2.false true second))
+    let second = is_tail_lem (c.type_inv.s (a.at + 1)).fits (sym c.class.ensures ∙ c.if-class-ne-TAIL.false) in
+    rw (c.from.ensures, c.from-2.ensures) (ap (next_by a.at) (sym (two_by a.s.now a.at c.if-s-at-lt2.false true second)))
