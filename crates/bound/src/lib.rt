@@ -13,20 +13,12 @@ const BYTE_ORDER_MARK: u16 = 0xFEFF;
 const NOT_A_CHARACTER: u16 = 0xFFFE;
 
 // A bound is not D800 to DFFF, FEFF or FFFE.
+#[tactic(auto, unfolding(paper::specs::Pack::Rules::is_bound))]
 pub fn is_bound(x: u16) -> bool
     ensures { result ≡ is_bound x }
 {
-    if x < FIRST_SURROGATE {
-        return true;
-    }
-    if x <= LAST_SURROGATE {
-        return false;
-    }
-    if x == BYTE_ORDER_MARK {
-        return false;
-    }
-    if x == NOT_A_CHARACTER {
-        return false;
-    }
-    true
+    !matches!(
+        x,
+        FIRST_SURROGATE..=LAST_SURROGATE | BYTE_ORDER_MARK | NOT_A_CHARACTER
+    )
 }

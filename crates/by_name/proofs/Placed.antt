@@ -17,10 +17,10 @@ use Rattle.paper.specs.Tables.Lent.{got}
 use Rattle.paper.proofs.Tables.Laws.{left, left_all, left_none, left_more}
 use Rattle.table_rules.proofs.Turn.{entry}
 use Rattle.table_rules.proofs.Entries.{first_got, field_got, inside}
-use Rattle.seek.specs.declared.Found.TheVariants.{At, Nothing}
 use Rattle.seek.specs.Finds.{Finds}
 use Rattle.seek.proofs.Compare.{differs}
 use Rattle.seek.proofs.Search.{Searching, search_start, search_hit, search_on, search_done}
+use Rattle.std.specs.Prelude.{None, Some}
 
 -- the slots that a loop has left
 abbrev pub slots_left : List ℕ → ℕ → ℕ → List NameSlot
@@ -96,7 +96,7 @@ place_start store l n name h e =
     }
 
 module _ {store l : List ℕ} {n : ℕ} {name : List ℕ} {i : ℕ} (z : Placing store l n name i) where
-  pub place_done : n ≤ i → Finds (map (name_in store) (name_slots_of l n)) name Nothing
+  pub place_done : n ≤ i → Finds (map (name_in store) (name_slots_of l n)) name None
   place_done h = search_done z.seen (ap (map (name_in store)) (none_left l n i h))
 
   module _ (lt : i < n) where
@@ -124,7 +124,7 @@ module _ {store l : List ℕ} {n : ℕ} {name : List ℕ} {i : ℕ} (z : Placing
           er ∙ whole_name store name start k whole
           ∙ ap₂ (λ m j. same name (take m (drop j store))) (sym e ∙ len_is l n i lt z.long len el) (start_is l n i lt z.long start es)
 
-      pub place_hit : r ≡ true → Finds (map (name_in store) (name_slots_of l n)) name (At i)
+      pub place_hit : r ≡ true → Finds (map (name_in store) (name_slots_of l n)) name (Some i)
       place_hit h = search_hit z.seen _ _ next (sym h ∙ is_name)
 
       pub place_on : r ≡ false → Placing store l n name (i + 1)

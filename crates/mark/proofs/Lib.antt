@@ -1,2 +1,2 @@
--- The laws that the proof shares.
+-- The law that the proof cites.
 pub mod Mark

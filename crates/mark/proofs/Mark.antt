@@ -1,25 +1,22 @@
--- The loop that makes a mark: the mark of what is left, after the one so far, is the name's.
--- Assumes nothing.
-use Prim.Native.Nat.{ℕ, suc, ◌+◌, ◌*◌, ◌%◌, ◌≤◌, ◌<◌}
-use native.Mathlib.Numerals.{add-one}
-use mathlib.Core.Path.{◌≡◌, refl, sym, ap, ◌∙◌}
-use mathlib.Core.List.{List}
-use lib.ListN.{length, drop, get_or, drop_of_length-le}
-use lib.Seq.{drop-cons}
+-- The mark is a fold whose steps wrap at 32 bits. Assumes nothing.
+use Prim.Native.Nat.{ℕ, ◌+◌, ◌*◌, ◌%◌}
+use native.Mathlib.Omega.{arith}
+use mathlib.Core.Path.{◌≡◌, refl, ap, ◌∙◌}
+use mathlib.Core.List.{List, [], ◌∷◌}
+use Rattle.std.specs.List.{fold}
 use Rattle.mark.specs.Mark.{marks, factor, mark_after, mark}
 
-pub mark_begins : (l : List ℕ) → mark_after 0 (drop 0 l) ≡ mark l
+-- one byte more, the product cut first
+abbrev pub step : ℕ → ℕ → ℕ
+step h b = (h * factor % marks + b) % marks
+
+folded : (h : ℕ) (l : List ℕ) → fold step h l ≡ mark_after h l
+unfolding mark_after
+folded h [] = refl
+folded h (b ∷ l) =
+    let e : step h b ≡ (h * factor + b) % marks = omega arith in
+    ap (λ k. fold step k l) e ∙ folded ((h * factor + b) % marks) l
+
+pub mark_is : (l : List ℕ) → fold step 0 l ≡ mark l
 unfolding mark
-mark_begins l = refl
-
-module _ (l : List ℕ) (i h v : ℕ) (inv : mark_after h (drop i l) ≡ v) where
-  pub mark_goes : (b : ℕ) → i < length l → b ≡ get_or l i 0 → mark_after ((h * factor + b) % marks) (drop (i + 1) l) ≡ v
-  unfolding mark_after
-  mark_goes b lt e =
-      ap (λ k. mark_after ((h * factor + b) % marks) (drop k l)) (add-one i)
-      ∙ ap (λ x. mark_after ((h * factor + x) % marks) (drop (suc i) l)) e
-      ∙ ap (mark_after h) (sym (drop-cons l i 0 lt)) ∙ inv
-
-  pub mark_ends : length l ≤ i → h ≡ v
-  unfolding mark_after
-  mark_ends g = ap (mark_after h) (sym (drop_of_length-le l g)) ∙ inv
+mark_is l = folded 0 l

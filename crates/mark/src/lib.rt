@@ -1,30 +1,18 @@
 // A number made of all bytes of a name, by which names are told apart before their bytes are compared.
 #![tactic(auto)]
 
-ghost use Rattle.std.specs.Prelude.{◌≡◌, ◌<◌};
+ghost use Rattle.std.specs.Prelude.{◌≡◌};
 ghost use Rattle.mark.specs.Mark.{mark};
 
-// As specs/Mark.antt has them.
-const MARKS: u64 = 4294967296;
-
-const MARK_FACTOR: u64 = 16777619;
-
-// A byte as a number to reckon with: the call asks only that the byte is there.
-fn wide(x: u8) -> u64
-    ensures { (result ≡ x) × (result < 256) }
-{
-    x as u64
-}
+// As specs/Mark.antt has it. Marks are numbers of 32 bits, so what passes them wraps.
+const MARK_FACTOR: u32 = 16777619;
 
 // Names that are the same have the same mark.
 pub fn mark_of(name: &[u8]) -> u32
     ensures { result ≡ mark name.now }
 {
-    let mut h = 0u64;
-    let mut i = 0;
-    while i < name.len() {
-        h = (h * MARK_FACTOR + wide(name[i])) % MARKS;
-        i += 1;
-    }
-    h as u32
+    name.iter().fold(
+        0,
+        |h: u32, b| h.wrapping_mul(MARK_FACTOR).wrapping_add(u32::from(*b)),
+    )
 }

@@ -14,12 +14,12 @@ use Rattle.paper.specs.CharDef.Reading.{name_bytes}
 use Rattle.paper.specs.Computed.ReadText.{intern_one, names_are, full_at}
 use Rattle.paper.specs.Tables.Lent.{patch}
 use Rattle.name.specs.declared.Numbered.{Numbered}
-use Rattle.seek.specs.declared.Found.TheVariants.{At, Nothing}
 use Rattle.seek.specs.Finds.{Finds}
 use Rattle.slot.specs.Slots.{slot_unit, hint_of}
 use Rattle.slot.specs.Laid.{Laid, Added}
 use Rattle.name.specs.Names.{Numbers, Refuses}
 use Rattle.slot.proofs.More.{any_more, place_more, laid_more}
+use Rattle.std.specs.Prelude.{None, Some}
 
 -- ---- the paper's interning, by cases
 
@@ -43,14 +43,14 @@ module _ (names : List (List ℕ)) (n : List ℕ) where
 -- ---- the cases of `category_id`
 
 module _ {names : List (List ℕ)} {store slots : List ℕ} {count bytes : ℕ} (n : List ℕ) (z : Laid names store slots count bytes) where
-  pub enters_known : (i : ℕ) → Finds names n (At i) → Numbers names n store slots (record { number = i; count = count; bytes = bytes })
+  pub enters_known : (i : ℕ) → Finds names n (Some i) → Numbers names n store slots (record { number = i; count = count; bytes = bytes })
   enters_known i (h, p) =
       record { now_names = names; entered = intern_known names n h; laid_now = z; there = h; number_is = p; more = []; grown = sym (append-nil names) }
 
-  pub enters_12 : Finds names n Nothing → max_categories ≤ count → Refuses names n store slots store slots categories_full
+  pub enters_12 : Finds names n None → max_categories ≤ count → Refuses names n store slots store slots categories_full
   enters_12 h g = record { full = intern_12 names n h (omega (arith, z.count_is)); store_kept = refl; slots_kept = refl }
 
-  pub enters_13 : Finds names n Nothing → count < max_categories → max_name_bytes < bytes + length n → Refuses names n store slots store slots name_bytes_full
+  pub enters_13 : Finds names n None → count < max_categories → max_name_bytes < bytes + length n → Refuses names n store slots store slots name_bytes_full
   enters_13 h g k =
       record {
         full = intern_13 names n h (omega (arith, z.count_is)) (omega (arith, z.bytes_is));
@@ -58,7 +58,7 @@ module _ {names : List (List ℕ)} {store slots : List ℕ} {count bytes : ℕ} 
         slots_kept = refl;
       }
 
-  pub enters_new : Finds names n Nothing → count < max_categories → bytes + length n ≤ max_name_bytes
+  pub enters_new : Finds names n None → count < max_categories → bytes + length n ≤ max_name_bytes
       → (store₁ slots₁ : List ℕ) → store₁ ≡ patch bytes n store → (len : ℕ) → len ≡ length n → Added slots count (bytes * slot_unit + len) (hint_of n) slots₁
       → (r : Numbered) → r.number ≡ count → r.count ≡ count + 1 → r.bytes ≡ bytes + length n
       → Numbers names n store₁ slots₁ r

@@ -6,8 +6,7 @@ use Rattle.paper.specs.Lists.{any, same, position_of}
 use Rattle.paper.specs.Computed.ReadText.{intern_one, names_are, full_at}
 use Rattle.slot.specs.Laid.{Laid}
 use Rattle.name.specs.declared.Numbered.{Numbered}
-use Rattle.name.specs.declared.Entry.{Entry}
-use Rattle.name.specs.declared.Entry.TheVariants.{Number, Full}
+use Rattle.std.specs.Prelude.{Err, Ok, Result}
 
 -- what the reader keeps: room of the full sizes, counts within them, and a part of the text
 pub record Room (store slots text : List ℕ) (count bytes start end : ℕ) : Type 0 where
@@ -35,8 +34,8 @@ pub record Refuses (names : List (List ℕ)) (n store₀ slots₀ store₁ slots
   pub store_kept : store₁ ≡ store₀
   pub slots_kept : slots₁ ≡ slots₀
 
-abbrev pub Enters : (store₀ slots₀ : List ℕ) (count bytes : ℕ) (n store₁ slots₁ : List ℕ) → Entry → Type 0
-Enters store₀ slots₀ count bytes n store₁ slots₁ (Number r) =
+abbrev pub Enters : (store₀ slots₀ : List ℕ) (count bytes : ℕ) (n store₁ slots₁ : List ℕ) → Result Numbered ℕ → Type 0
+Enters store₀ slots₀ count bytes n store₁ slots₁ (Ok r) =
     (names : List (List ℕ)) → Laid names store₀ slots₀ count bytes → Numbers names n store₁ slots₁ r
-Enters store₀ slots₀ count bytes n store₁ slots₁ (Full k) =
+Enters store₀ slots₀ count bytes n store₁ slots₁ (Err k) =
     (names : List (List ℕ)) → Laid names store₀ slots₀ count bytes → Refuses names n store₀ slots₀ store₁ slots₁ k

@@ -1,9 +1,11 @@
 -- Names that stand one behind another from 0 are each where their own slot says: `placed_names` is the paper's `names_in`.
 -- Assumes nothing.
-use Prim.Native.Nat.{ℕ, zero, suc, ◌+◌, ◌*◌, ◌≤◌, ◌<◌}
+use denote.Bor.{Bor}
+use Prim.Native.Nat.{ℕ, zero, suc, ◌+◌, ◌*◌, ◌-◌, ◌≤◌, ◌<◌}
 use native.Mathlib.Nat.{mul-suc, mul-zero}
 use native.Mathlib.Numerals.{add-one}
 use native.Mathlib.Omega.{arith}
+use mathlib.Core.Logic.{◌⊎◌, inl, inr}
 use mathlib.Core.Path.{◌≡◌, refl, sym, ap, ap₂, ◌∙◌}
 use mathlib.Core.List.{List, [], ◌∷◌, ◌++◌, map}
 use lib.Dec.{T, leb, ltb, eqb}
@@ -11,6 +13,9 @@ use lib.ListN.{length, take, drop}
 use lib.Seq.{drop-drop}
 use borrow.Author.Tests.{le-leb, lt-leb}
 use mir.Facts.{and_yes, leb_yes, eqb_yes}
+use Rattle.std.specs.List.{slice_range}
+use Rattle.std.specs.Option.{MatchOption, unwrap_or}
+use Rattle.std.specs.Prelude.{Option, None, Some}
 use Rattle.paper.specs.Computed.HandedIn.{name_slots_stand}
 use Rattle.paper.specs.Tables.Layout.{NameSlot, name_slot_of, pieces, split}
 use Rattle.paper.specs.Tables.Lent.{num, got}
@@ -27,15 +32,26 @@ module _ (names categories : List ℕ) (i start len : ℕ) (long : 4 * i + 4 ≤
       let q : len ≡ num 2 2 (take 4 (drop (4 * i) categories)) = el ∙ field_got 2 2 4 i categories (omega arith) long in
       rw (p, q)
 
-  pub name_inside : start + len ≤ length names → take len (drop start names) ≡ name_of i categories names
+  name_inside : start + len ≤ length names → take len (drop start names) ≡ name_of i categories names
   unfolding name_of placed
   name_inside h =
       sym (ap (placed names) (sym slot_is) ∙ rw (le-leb (start + len) (length names) h))
 
-  pub name_outside : length names < start + len → [] ≡ name_of i categories names
+  name_outside : length names < start + len → [] ≡ name_of i categories names
   unfolding name_of placed
   name_outside h =
       sym (ap (placed names) (sym slot_is) ∙ rw (lt-leb (start + len) (length names) h))
+
+  -- the answer of `get`, or nothing
+  pub name_found : (r : Option (Bor (List ℕ))) (d : Bor (List ℕ)) → d.now ≡ []
+      → MatchOption r ((start + len < start) ⊎ (length names < start + len))
+      (λ x. (start ≤ start + len) × (start + len ≤ length names) × (x.now ≡ slice_range names start (start + len)) × (length x.now + start ≡ start + len))
+      → (unwrap_or r d).now ≡ name_of i categories names
+  name_found None d e (inl h) = absurd (omega arith)
+  name_found None d e (inr h) = e ∙ name_outside h
+  name_found (Some x) d e h =
+      let k : start + len - start ≡ len = omega arith in
+      h.2 ∙ ap (λ m. take m (drop start names)) k ∙ name_inside h.1
 
 -- ---- one behind another
 

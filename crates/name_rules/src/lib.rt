@@ -17,13 +17,9 @@ fn name_at<'a>(names: &'a [u8], categories: &'a [u8], i: usize) -> &'a [u8]
     requires { 4 * i + 4 ≤ length categories.now }
     ensures { result.now ≡ name_of i categories.now names.now }
 {
-    let start = table::get_u16(categories, CATEGORY_BYTES * i) as usize;
-    let len = table::get_u16(categories, CATEGORY_BYTES * i + NAME_LENGTH_AT) as usize;
-    let end = start + len;
-    if names.len() < end {
-        return &names[0..0];
-    }
-    &names[start..end]
+    let start = usize::from(table::get_u16(categories, CATEGORY_BYTES * i));
+    let len = usize::from(table::get_u16(categories, CATEGORY_BYTES * i + NAME_LENGTH_AT));
+    names.get(start..start + len).unwrap_or(&[])
 }
 
 // A name is well-formed UTF-8 exactly where its longest well-formed prefix is all of it.
@@ -38,29 +34,10 @@ pub fn names_formed<'a>(names: &'a [u8], categories: &'a [u8], n: usize) -> bool
     requires { 4 * n ≤ length categories.now }
     ensures { result ≡ all formed (placed_names n categories.now names.now) }
 {
-    let mut i = 0;
-    while i < n {
+    for i in 0..n {
         if !is_formed(name_at(names, categories, i)) {
             return false;
         }
-        i += 1;
-    }
-    true
-}
-
-// Two names are the same: lengths first, then bytes up to the first that differs.
-fn is_same<'a>(a: &'a [u8], b: &'a [u8]) -> bool
-    ensures { result ≡ same a.now b.now }
-{
-    if a.len() != b.len() {
-        return false;
-    }
-    let mut i = 0;
-    while i < a.len() {
-        if a[i] != b[i] {
-            return false;
-        }
-        i += 1;
     }
     true
 }
@@ -70,10 +47,8 @@ fn mark_names<'a>(names: &'a [u8], categories: &'a [u8], n: usize, marks: &mut [
     requires { (4 * n ≤ length categories.now) × (n ≤ length marks.old) }
     ensures { Marked n categories.now names.now marks.new }
 {
-    let mut i = 0;
-    while i < n {
+    for i in 0..n {
         marks[i] = mark::mark_of(name_at(names, categories, i));
-        i += 1;
     }
 }
 
@@ -85,15 +60,9 @@ pub fn is_new<'a>(names: &'a [u8], categories: &'a [u8], marks: &'a [u32], i: us
 {
     let name = name_at(names, categories, i);
     let own = marks[i];
-    let mut k = 0;
-    while k < i {
-        if marks[k] == own {
-            if is_same(name, name_at(names, categories, k)) {
-                return false;
-            }
-            k += 1;
-        } else {
-            k += 1;
+    for k in 0..i {
+        if marks[k] == own && name == name_at(names, categories, k) {
+            return false;
         }
     }
     true
@@ -107,12 +76,10 @@ pub fn names_once<'a>(names: &'a [u8], categories: &'a [u8], n: usize) -> bool
 {
     let mut marks = [0u32; MAX_CATEGORIES];
     mark_names(names, categories, n, &mut marks);
-    let mut i = 0;
-    while i < n {
+    for i in 0..n {
         if !is_new(names, categories, &marks, i) {
             return false;
         }
-        i += 1;
     }
     true
 }

@@ -4,13 +4,12 @@
 use Prim.Native.Nat.{ℕ, zero, suc, ◌+◌}
 use native.Mathlib.Numerals.{add-one}
 use native.Mathlib.Omega.{arith}
-use mathlib.Core.Path.{◌≡◌, refl, sym, ap, ◌∙◌, subst}
+use mathlib.Core.Path.{◌≡◌, refl, sym, ap, ◌∙◌}
 use mathlib.Core.Bool.{true, false, cond, ◌||◌}
 use mathlib.Core.List.{List, [], ◌∷◌}
 use Rattle.paper.specs.Lists.{any, same, position_of}
-use Rattle.seek.specs.declared.Found.{Found}
-use Rattle.seek.specs.declared.Found.TheVariants.{At, Nothing}
 use Rattle.seek.specs.Finds.{Finds}
+use Rattle.std.specs.Prelude.{None, Some}
 
 pub record Searching (names : List (List ℕ)) (n : List ℕ) (i : ℕ) (rest : List (List ℕ)) : Type 0 where
   pub some : any (same n) rest ≡ any (same n) names
@@ -21,7 +20,7 @@ search_start names n = record { some = refl; place = omega arith }
 
 module _ {names : List (List ℕ)} {n : List ℕ} {i : ℕ} {rest : List (List ℕ)} (z : Searching names n i rest) where
   module _ (x : List ℕ) (more : List (List ℕ)) (e : rest ≡ x ∷ more) where
-    pub search_hit : true ≡ same n x → Finds names n (At i)
+    pub search_hit : true ≡ same n x → Finds names n (Some i)
     search_hit h =
         let p : position_of same n rest ≡ 0 = ap (position_of same n) e ∙ ap (λ b. cond b zero (suc (position_of same n more))) (sym h) in
         let q = z.place in
@@ -33,8 +32,5 @@ module _ {names : List (List ℕ)} {n : List ℕ} {i : ℕ} {rest : List (List �
         let q = z.place in
         record { some = ap (λ b. b || any (same n) more) h ∙ ap (any (same n)) (sym e) ∙ z.some; place = omega (arith, add-one i) }
 
-  pub search_done : rest ≡ [] → Finds names n Nothing
+  pub search_done : rest ≡ [] → Finds names n None
   search_done e = sym z.some ∙ ap (any (same n)) e
-
-pub finds_as : (names : List (List ℕ)) (n : List ℕ) (s : Found) {r : Found} → r ≡ s → Finds names n r → Finds names n s
-finds_as names n s e h = subst (λ x. Finds names n x) e h

@@ -5,15 +5,7 @@
 ghost use Rattle.std.specs.Prelude.{◌≡◌, ◌-◌, ◌≤◌, length, take, drop};
 ghost use Rattle.paper.specs.Lists.{same};
 
-// The lowest number with a name.
-#[derive(Drop)]
-pub enum Found {
-    At(usize),
-    Nothing,
-}
-
-// The bytes of the text from `start` to `end` stand in the store at `at`. The last byte first, since names often begin alike; then up to the
-// first that differs.
+// The bytes of the text from `start` to `end` stand in the store at `at`. The last byte first, since names often begin alike.
 pub fn holds_at(names: &[u8], at: usize, text: &[u8], start: usize, end: usize) -> bool
     requires { (start ≤ end) × (end ≤ length text.now) }
     ensures { result ≡ same (drop start (take end text.now)) (take (end - start) (drop at names.now)) }
@@ -22,21 +14,8 @@ pub fn holds_at(names: &[u8], at: usize, text: &[u8], start: usize, end: usize) 
         return true;
     }
     let len = end - start;
-    if names.len() < len {
+    if names.len() < len || names.len() - len < at || text[end - 1] != names[at + len - 1] {
         return false;
     }
-    if names.len() - len < at {
-        return false;
-    }
-    if text[end - 1] != names[at + len - 1] {
-        return false;
-    }
-    let mut i = 0;
-    while i < len {
-        if text[start + i] != names[at + i] {
-            return false;
-        }
-        i += 1;
-    }
-    true
+    text[start..end] == names[at..at + len]
 }

@@ -23,12 +23,12 @@ use Rattle.paper.proofs.Lists.Facts.{T→true, true→T, or_true}
 use Rattle.paper.proofs.Lists.Seen.{same_eq, same_refl}
 use Rattle.paper.proofs.Tables.Append.{padded_length}
 use Rattle.paper.proofs.Tables.Trip.{places_length}
-use Rattle.seek.specs.declared.Found.TheVariants.{At, Nothing}
 use Rattle.slot.specs.Slots.{slot_unit, hint_unit, slot_word, slot_of, word_slot, hints_of}
 use Rattle.slot.specs.Laid.{Laid, Tells, FindsIn}
 use Rattle.slot.proofs.Hints.{hints_length, slotted_length, slotted_at}
 use Rattle.seek.proofs.Compare.{unlike, differs}
 use Rattle.seek.proofs.Search.{Searching, search_start, search_hit, search_on, search_done}
+use Rattle.std.specs.Prelude.{None, Some}
 
 -- ---- a slot and its name
 
@@ -109,10 +109,10 @@ module _ {names : List (List ℕ)} {store slots : List ℕ} {count bytes : ℕ} 
 module _ (store slots n : List ℕ) (i : ℕ) where
   -- bytes that are not there, as many as are sought: a name of that length is another one
   pub tells_bytes : (at : ℕ) → at ≡ get_or slots i 0 % hint_unit / slot_unit → (len : ℕ) → len ≡ length n → (r : Bool) → r ≡ same n (take len (drop at store)) → r ≡ false
-      → Tells store slots n i false
+      → Tells store slots n i r
   tells_bytes at a len whole r e h names count bytes z lt =
       let s = slot_says z i lt in
-      unlike n (get_or names i [])
+      h ∙ unlike n (get_or names i [])
       (λ d.
       let b : len ≡ get_or slots i 0 % slot_unit = whole ∙ ap length d ∙ sym s.long in
       true_false
@@ -139,7 +139,7 @@ any_at n [] i lt h = absurd (omega arith)
 any_at n (x ∷ names) zero lt h = ap (λ b. b || any (same n) names) h
 any_at n (x ∷ names) (suc i) lt h = ap (λ b. same n x || b) (any_at n names i (omega arith) h) ∙ or_true (same n x)
 
-pub hint_hit : (store slots n : List ℕ) (count i : ℕ) → i < count → (r : Bool) → Tells store slots n i r → r ≡ true → FindsIn store slots count n (At i)
+pub hint_hit : (store slots n : List ℕ) (count i : ℕ) → i < count → (r : Bool) → Tells store slots n i r → r ≡ true → FindsIn store slots count n (Some i)
 hint_hit store slots n count i lt r f h names bytes z =
     let k : i < length names = omega (arith, z.count_is) in
     let e : same n (get_or names i []) ≡ true = sym (f names count bytes z lt) ∙ h in
@@ -156,7 +156,7 @@ pub look_start : (store slots : List ℕ) (count : ℕ) (n : List ℕ) → Looki
 look_start store slots count n = record { upto = omega arith; seen = λ names bytes z. search_start names n }
 
 module _ {store slots : List ℕ} {count : ℕ} {n : List ℕ} {i : ℕ} (l : Looking store slots count n i) where
-  pub look_done : count ≤ i → FindsIn store slots count n Nothing
+  pub look_done : count ≤ i → FindsIn store slots count n None
   look_done h names bytes z =
       let k : length names ≤ i = omega (arith, z.count_is) in
       search_done (l.seen names bytes z) (drop_of_length-le names k)
@@ -165,7 +165,7 @@ module _ {store slots : List ℕ} {count : ℕ} {n : List ℕ} {i : ℕ} (l : Lo
     next : (names : List (List ℕ)) (bytes : ℕ) → Laid names store slots count bytes → drop i names ≡ get_or names i [] ∷ drop (i + 1) names
     next names bytes z = drop-cons names i [] (omega (arith, z.count_is)) ∙ ap (λ k. get_or names i [] ∷ drop k names) (sym (add-one i))
 
-    pub look_hit : r ≡ true → FindsIn store slots count n (At i)
+    pub look_hit : r ≡ true → FindsIn store slots count n (Some i)
     look_hit h names bytes z = search_hit (l.seen names bytes z) _ _ (next names bytes z) (sym h ∙ f names count bytes z lt)
 
     pub look_on : r ≡ false → Looking store slots count n (i + 1)

@@ -7,8 +7,8 @@ use Rattle.paper.specs.CharDef.Reading.{name_bytes}
 use Rattle.paper.specs.Tables.Layout.{name_slots}
 use Rattle.paper.specs.Tables.Lent.{padded}
 use Rattle.seek.specs.Finds.{Finds}
-use Rattle.seek.specs.declared.Found.{Found}
 use Rattle.slot.specs.Slots.{slot_word, with_word, with_hint, hints_of, slotted}
+use Rattle.std.specs.Prelude.{Option}
 
 -- a store and slots that hold these names and no more, none twice: one behind another from 0, in order, and zero after them; and their hints
 pub record Laid (names : List (List ℕ)) (store slots : List ℕ) (count bytes : ℕ) : Type 0 where
@@ -28,7 +28,7 @@ Sought slots text start end = (max_categories ≤ length slots) × ((start ≤ e
 abbrev pub Tells : (store slots n : List ℕ) (i : ℕ) → Bool → Type 0
 Tells store slots n i r = (names : List (List ℕ)) (count bytes : ℕ) → Laid names store slots count bytes → i < count → r ≡ same n (get_or names i [])
 
-abbrev pub FindsIn : (store slots : List ℕ) (count : ℕ) (n : List ℕ) → Found → Type 0
+abbrev pub FindsIn : (store slots : List ℕ) (count : ℕ) (n : List ℕ) → Option ℕ → Type 0
 FindsIn store slots count n r = (names : List (List ℕ)) (bytes : ℕ) → Laid names store slots count bytes → Finds names n r
 
 -- slot `count` has this word, and the slot at a place this number as its hint

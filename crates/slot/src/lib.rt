@@ -8,7 +8,6 @@ ghost use Rattle.slot.specs.Slots.{slot_unit, hint_unit, with_word, with_hint, h
 ghost use Rattle.slot.specs.Laid.{Sought, Tells, FindsIn, Added};
 
 use paper::MAX_CATEGORIES;
-use seek::Found;
 use table::{CATEGORY_BYTES, NAME_LENGTH_AT};
 
 // While a text is read a slot is one number, hint * HINT_UNIT + start * SLOT_UNIT + length; start and length are 0 where no name has it.
@@ -56,10 +55,7 @@ fn is_name(names: &[u8], slots: &[u64], i: usize, text: &[u8], start: usize, end
     ensures { Tells names.now slots.now (drop start (take end text.now)) i result }
 {
     let slot = slots[i];
-    if seek::holds_at(names, slot_start(slot), text, start, end) {
-        return slot_len(slot) == end - start;
-    }
-    false
+    seek::holds_at(names, slot_start(slot), text, start, end) && slot_len(slot) == end - start
 }
 
 // The lowest number whose name is the text from `start` to `end`, one after another.
@@ -70,18 +66,16 @@ fn try_all(
     text: &[u8],
     start: usize,
     end: usize,
-) -> Found
+) -> Option<usize>
     requires { (count ≤ max_categories) × Sought slots.now text.now start end }
     ensures { FindsIn names.now slots.now count (drop start (take end text.now)) result }
 {
-    let mut i = 0;
-    while i < count {
+    for i in 0..count {
         if is_name(names, slots, i, text, start, end) {
-            return Found::At(i);
+            return Some(i);
         }
-        i += 1;
     }
-    Found::Nothing
+    None
 }
 
 // The lowest number whose name is the text from `start` to `end`: the hint's where it is the name's, since no name is there twice.
@@ -92,15 +86,13 @@ pub fn find_name(
     text: &[u8],
     start: usize,
     end: usize,
-) -> Found
+) -> Option<usize>
     requires { (count ≤ max_categories) × Sought slots.now text.now start end }
     ensures { FindsIn names.now slots.now count (drop start (take end text.now)) result }
 {
     let hint = (slots[hint_at(text, start, end)] / HINT_UNIT) as usize;
-    if hint < count {
-        if is_name(names, slots, hint, text, start, end) {
-            return Found::At(hint);
-        }
+    if hint < count && is_name(names, slots, hint, text, start, end) {
+        return Some(hint);
     }
     try_all(names, slots, count, text, start, end)
 }
@@ -135,18 +127,12 @@ pub fn add_slot(slots: &mut [u64], count: usize, at: usize, text: &[u8], start: 
 pub fn write_slots(slots: &[u64], categories: &mut [u8])
     ensures { categories.new ≡ written slots.now categories.old }
 {
-    if slots.len() < MAX_CATEGORIES {
+    if slots.len() < MAX_CATEGORIES || categories.len() < CATEGORY_BYTES * MAX_CATEGORIES {
         return;
     }
-    if categories.len() < CATEGORY_BYTES * MAX_CATEGORIES {
-        return;
-    }
-    let mut i = 0;
-    while i < MAX_CATEGORIES {
-        let slot = slots[i];
+    for (i, slot) in slots[..MAX_CATEGORIES].iter().enumerate() {
         let at = CATEGORY_BYTES * i;
-        table::put_u16(categories, at, slot_start(slot) as u16);
-        table::put_u16(categories, at + NAME_LENGTH_AT, slot_len(slot) as u16);
-        i += 1;
+        table::put_u16(categories, at, slot_start(*slot) as u16);
+        table::put_u16(categories, at + NAME_LENGTH_AT, slot_len(*slot) as u16);
     }
 }

@@ -1,3 +1,2 @@
--- The laws that the proofs share.
-pub mod Width
-pub mod Zeroing
+-- The law that the proofs share.
+pub mod Zeros

@@ -2,8 +2,8 @@
 // whatever place it is handed.
 #![tactic(auto)]
 
-ghost use Rattle.std.specs.Prelude.{◌≡◌, ◌<◌};
-ghost use Rattle.paper.specs.Numbers.Bytes.{le};
+ghost use Rattle.std.specs.Prelude.{◌≡◌};
+ghost use Rattle.paper.specs.Numbers.Bytes.{le, value};
 ghost use Rattle.paper.specs.Tables.Lent.{got, patch, zeroed};
 
 // The entries of a reading's tables, in bytes, and where a field stands in its entry, as `Tables.Layout` has them: a category is
@@ -29,97 +29,63 @@ pub const COUNT_AT: usize = 6;
 
 pub const REFERENCE_BYTES: usize = 2;
 
-const U16_BYTES: usize = 2;
-
-const U32_BYTES: usize = 4;
-
-// A byte as a number to reckon with: the call asks only that the byte is there.
-fn wide16(x: u8) -> u16
-    ensures { (result ≡ x) × (result < 256) }
+// The N bytes at a place, or zero bytes where they run past the end.
+#[tactic(auto, using(crate::proofs::Zeros::value_zeros), unfolding(paper::specs::Tables::Lent::got, paper::specs::Tables::Lent::num))]
+fn get<const N: usize>(t: &[u8], at: usize) -> [u8; N]
+    ensures { value result ≡ got N at t.now }
 {
-    x as u16
+    if let Some(rest) = t.get(at..)
+        && let Some(bytes) = rest.first_chunk()
+    {
+        return *bytes;
+    }
+    [0; N]
 }
 
-fn wide32(x: u8) -> u32
-    ensures { (result ≡ x) × (result < 256) }
+// Puts N bytes at a place; past the end nothing changes.
+#[tactic(auto, unfolding(paper::specs::Tables::Lent::patch))]
+fn put<const N: usize>(t: &mut [u8], at: usize, bytes: [u8; N])
+    ensures { t.new ≡ patch at bytes.entry t.old }
 {
-    x as u32
+    if N <= t.len() && at <= t.len() - N {
+        t[at..at + N].copy_from_slice(&bytes);
+    }
 }
 
 // The number of two bytes at a place; past the end 0.
 pub fn get_u16(t: &[u8], at: usize) -> u16
     ensures { result ≡ got 2 at t.now }
 {
-    if t.len() < U16_BYTES {
-        return 0;
-    }
-    if t.len() - U16_BYTES < at {
-        return 0;
-    }
-    let low = wide16(t[at]);
-    let high = wide16(t[at + 1]);
-    low + 256 * high
+    u16::from_le_bytes(get(t, at))
 }
 
 // The number of four bytes at a place; past the end 0.
 pub fn get_u32(t: &[u8], at: usize) -> u32
     ensures { result ≡ got 4 at t.now }
 {
-    if t.len() < U32_BYTES {
-        return 0;
-    }
-    if t.len() - U32_BYTES < at {
-        return 0;
-    }
-    let a = wide32(t[at]);
-    let b = wide32(t[at + 1]);
-    let c = wide32(t[at + 2]);
-    let d = wide32(t[at + 3]);
-    a + 256 * (b + 256 * (c + 256 * d))
+    u32::from_le_bytes(get(t, at))
 }
 
 // Two bytes at a place become a number; past the end nothing changes.
 pub fn put_u16(t: &mut [u8], at: usize, v: u16)
     ensures { t.new ≡ patch at (le 2 v) t.old }
 {
-    if t.len() < U16_BYTES {
-        return;
-    }
-    if t.len() - U16_BYTES < at {
-        return;
-    }
-    let low = (v % 256) as u8;
-    let high = (v / 256 % 256) as u8;
-    t[at] = low;
-    t[at + 1] = high;
+    put(t, at, u16::to_le_bytes(v));
 }
 
 // Four bytes at a place become a number; past the end nothing changes.
 pub fn put_u32(t: &mut [u8], at: usize, v: u32)
     ensures { t.new ≡ patch at (le 4 v) t.old }
 {
-    if t.len() < U32_BYTES {
-        return;
-    }
-    if t.len() - U32_BYTES < at {
-        return;
-    }
-    t[at] = (v % 256) as u8;
-    t[at + 1] = (v / 256 % 256) as u8;
-    t[at + 2] = (v / 256 / 256 % 256) as u8;
-    t[at + 3] = (v / 256 / 256 / 256 % 256) as u8;
+    put(t, at, u32::to_le_bytes(v));
 }
 
 // The first n bytes become 0; where there are fewer nothing changes.
+#[tactic(auto, unfolding(paper::specs::Tables::Lent::zeroed))]
 pub fn zero(t: &mut [u8], n: usize)
     ensures { t.new ≡ zeroed n t.old }
 {
-    if t.len() < n {
-        return;
-    }
-    let mut i = 0;
-    while i < n {
-        t[i] = 0;
-        i += 1;
+    if n <= t.len() {
+        t[..n].fill(0);
     }
 }

@@ -1,4 +1,4 @@
--- A turn of the loops over name slots, range slots and definitions, and over entries that are tested each by itself: what the code reads of
+-- A turn of the loops over name slots and range slots, and over entries that are tested each by itself: what the code reads of
 -- an entry, and what its tests say of the paper's.
 -- Assumes nothing.
 use Prim.Native.Nat.{ℕ, suc, ◌+◌, ◌*◌, ◌≤◌, ◌<◌}
@@ -8,11 +8,10 @@ use mathlib.Core.Path.{◌≡◌, refl, sym, ap, ◌∙◌}
 use mathlib.Core.Bool.{Bool, true, false, ◌&&◌, and_assoc}
 use mathlib.Core.List.{List, [], ◌∷◌, map}
 use lib.Dec.{T, leb, ltb, eqb}
-use lib.ListN.{length, drop, get_or}
-use lib.Seq.{get_or-take, get_or-drop}
+use lib.ListN.{length}
 use mir.Facts.{and_yes, yes_and, leb_yes, yes_leb, ltb_yes, yes_ltb, eqb_yes, yes_eqb}
 use Rattle.paper.specs.Lists.{all}
-use Rattle.paper.specs.Computed.HandedIn.{name_slots_stand, slots_stand, flagged}
+use Rattle.paper.specs.Computed.HandedIn.{name_slots_stand, slots_stand}
 use Rattle.paper.specs.Pack.Rules.{is_bound}
 use Rattle.paper.specs.Tables.Layout.{pieces, name_slot_of, slot_of}
 use Rattle.paper.specs.Tables.Lent.{num, got}
@@ -215,30 +214,3 @@ module _ (w : ℕ) (one : List ℕ → Bool) (l : List ℕ) (n : ℕ) where
 pub all_map : {A B : Type 0} (p : B → Bool) (f : A → B) (xs : List A) → all (λ x. p (f x)) xs ≡ all p (map f xs)
 all_map p f [] = refl
 all_map p f (x ∷ xs) = ap (λ b. p (f x) && b) (all_map p f xs)
-
--- ---- definitions
-
-pub record Flags (l : List ℕ) (i : ℕ) : Type 0 where
-  pub invoke : get_or l (6 * i + 4) 0 ≤ 1
-  pub group : get_or l (6 * i + 5) 0 ≤ 1
-
-flag_at : (k i : ℕ) (l : List ℕ) → k < 6 → get_or (entry 6 i l) k 0 ≡ get_or l (6 * i + k) 0
-flag_at k i l h = get_or-take 6 (drop (6 * i) l) k 0 h ∙ get_or-drop (6 * i) l k 0
-
-module _ (l : List ℕ) (n i : ℕ) (v : Bool) (inv : all flagged (left 6 n i l) ≡ v) (lt : i < n) where
-  pub flags_fail : (Flags l i → ⊥) → false ≡ v
-  unfolding flagged
-  flags_fail f =
-      all_fails 6 flagged l n i v inv lt
-      (λ t.
-      let h = and_yes (leb (get_or (entry 6 i l) 4 0) 1) (leb (get_or (entry 6 i l) 5 0) 1) t in
-      let a : get_or (entry 6 i l) 4 0 ≤ 1 = leb_yes h.0 in
-      let b : get_or (entry 6 i l) 5 0 ≤ 1 = leb_yes h.1 in
-      f (record { invoke = rw (flag_at 4 i l (omega arith)) at a; group = rw (flag_at 5 i l (omega arith)) at b }))
-
-  pub flags_go : Flags l i → all flagged (left 6 n (i + 1) l) ≡ v
-  unfolding flagged
-  flags_go h =
-      let a : get_or (entry 6 i l) 4 0 ≤ 1 = rw (flag_at 4 i l (omega arith)) h.invoke in
-      let b : get_or (entry 6 i l) 5 0 ≤ 1 = rw (flag_at 5 i l (omega arith)) h.group in
-      all_goes 6 flagged l n i v inv lt (yes_and (leb (get_or (entry 6 i l) 4 0) 1) (leb (get_or (entry 6 i l) 5 0) 1) (yes_leb a) (yes_leb b))

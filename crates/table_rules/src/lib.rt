@@ -18,21 +18,13 @@ pub fn names_stand(categories: &[u8], n: usize, total: usize) -> bool
     ensures { result ≡ name_slots_stand total 0 (map name_slot_of (pieces 4 n categories.now)) }
 {
     let mut at = 0;
-    let mut i = 0;
-    while i < n {
-        let start = table::get_u16(categories, CATEGORY_BYTES * i) as usize;
-        let len = table::get_u16(categories, CATEGORY_BYTES * i + NAME_LENGTH_AT) as usize;
-        if start != at {
-            return false;
-        }
-        if len == 0 {
-            return false;
-        }
-        if total - at < len {
+    for i in 0..n {
+        let start = usize::from(table::get_u16(categories, CATEGORY_BYTES * i));
+        let len = usize::from(table::get_u16(categories, CATEGORY_BYTES * i + NAME_LENGTH_AT));
+        if start != at || len == 0 || total - at < len {
             return false;
         }
         at += len;
-        i += 1;
     }
     at == total
 }
@@ -42,17 +34,10 @@ pub fn flags_hold(definitions: &[u8], n: usize) -> bool
     requires { 6 * n ≤ length definitions.now }
     ensures { result ≡ all flagged (pieces 6 n definitions.now) }
 {
-    let mut i = 0;
-    while i < n {
-        if 1 < definitions[DEFINITION_BYTES * i + INVOKE_AT] {
-            return false;
-        }
-        if 1 < definitions[DEFINITION_BYTES * i + GROUP_AT] {
-            return false;
-        }
-        i += 1;
-    }
-    true
+    let (entries, _) = definitions[..DEFINITION_BYTES * n].as_chunks::<DEFINITION_BYTES>();
+    entries
+        .iter()
+        .all(|d| d[INVOKE_AT] <= 1 && d[GROUP_AT] <= 1)
 }
 
 // References stand one behind another from 0 up to the total, and bounds are allowed.
@@ -61,26 +46,19 @@ pub fn ranges_stand(ranges: &[u8], n: usize, total: usize) -> bool
     ensures { result ≡ slots_stand total 0 (map slot_of (pieces 8 n ranges.now)) }
 {
     let mut sum = 0;
-    let mut i = 0;
-    while i < n {
+    for i in 0..n {
         let lower = table::get_u16(ranges, RANGE_BYTES * i);
         let upper = table::get_u16(ranges, RANGE_BYTES * i + UPPER_AT);
-        let first = table::get_u16(ranges, RANGE_BYTES * i + FIRST_AT) as usize;
-        let count = table::get_u16(ranges, RANGE_BYTES * i + COUNT_AT) as usize;
-        if first != sum {
-            return false;
-        }
-        if !bound::is_bound(lower) {
-            return false;
-        }
-        if !bound::is_bound(upper) {
-            return false;
-        }
-        if total - sum < count {
+        let first = usize::from(table::get_u16(ranges, RANGE_BYTES * i + FIRST_AT));
+        let count = usize::from(table::get_u16(ranges, RANGE_BYTES * i + COUNT_AT));
+        if first != sum
+            || !bound::is_bound(lower)
+            || !bound::is_bound(upper)
+            || total - sum < count
+        {
             return false;
         }
         sum += count;
-        i += 1;
     }
     sum == total
 }

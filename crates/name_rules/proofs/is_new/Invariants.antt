@@ -1,6 +1,6 @@
 -- `name_rules::is_new` meets its contract: the names that are left are tested as all before name i are. Names of different marks differ.
 -- Assumes nothing.
-use Prim.Native.Nat.{◌≤◌, ◌-◌}
+use Prim.Native.Nat.{◌≤◌}
 use mathlib.Core.Path.{◌≡◌}
 use mathlib.Core.Bool.{not}
 use Rattle.paper.specs.Lists.{any, same}
@@ -14,6 +14,3 @@ invariant-loop-k l =
     (l.k ≤ l.i)
     × (new_test l.names l.categories l.i 0 (left 4 l.i l.k l.categories)
     ≡ not (any (same (name_of l.i l.categories l.names)) (placed_names l.i l.categories l.names)))
-
-abbrev pub decreases-loop-k : goal.decreases-loop-k
-decreases-loop-k l = l.i - l.k

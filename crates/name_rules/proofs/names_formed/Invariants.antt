@@ -1,5 +1,5 @@
 -- `name_rules::names_formed` meets its contract: the names that are left are tested as all are. Assumes nothing.
-use Prim.Native.Nat.{◌≤◌, ◌-◌}
+use Prim.Native.Nat.{◌≤◌}
 use mathlib.Core.Path.{◌≡◌}
 use Rattle.paper.specs.Lists.{all}
 use Rattle.paper.specs.Computed.Rules.{formed}
@@ -10,6 +10,3 @@ use Rattle.name_rules.proofs.names_formed.Given as goal
 
 abbrev pub invariant-loop-i : goal.invariant-loop-i
 invariant-loop-i l = (l.i ≤ l.n) × (all (formed_at l.names) (left 4 l.n l.i l.categories) ≡ all formed (placed_names l.n l.categories l.names))
-
-abbrev pub decreases-loop-i : goal.decreases-loop-i
-decreases-loop-i l = l.n - l.i

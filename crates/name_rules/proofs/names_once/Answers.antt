@@ -1,4 +1,4 @@
-use native.Mathlib.Omega.{arith}
+use Rattle.std.proofs.Common.{rules, arith}
 use mathlib.Core.Path.{refl}
 use Rattle.name_rules.proofs.Once.{once_begins, once_fails, once_goes, once_ends}
 use Rattle.name_rules.proofs.names_once.Goals as goal
@@ -18,10 +18,10 @@ is_new-requires c = record { i_in_bounds = (omega arith, omega arith); marked = 
 pub returns-then-not-is_new : goal.returns-then-not-is_new
 returns-then-not-is_new c =
     once_fails _ _ _ _ _ _ c.loop-i.invariant.1 c.is_new.ensures
-    c.loop-i-test.true c.if-not-is_new.true-raw
+    c.loop-i-test.true (search rules)
 
 pub loop-i-preserved : goal.loop-i-preserved
-loop-i-preserved c = (omega arith, once_goes _ _ _ _ _ _ c.loop-i.invariant.1 c.is_new.ensures c.loop-i-test.true c.if-not-is_new.false-raw)
+loop-i-preserved c = (omega arith, once_goes _ _ _ _ _ _ c.loop-i.invariant.1 c.is_new.ensures c.loop-i-test.true (search rules))
 
 pub returns : goal.returns
 returns c = once_ends _ _ _ _ _ c.loop-i.invariant.1 c.loop-i-test.false

@@ -4,4 +4,4 @@ use Rattle.slot.proofs.Laid.{hint_hit}
 use Rattle.slot.proofs.find_name.Goals as goal
 
 pub returns-then-is_name : goal.returns-then-is_name
-returns-then-is_name c = hint_hit _ _ _ _ _ (omega arith) _ (c.is_name.ensures) (c.if-is_name.true)
+returns-then-is_name c = hint_hit _ _ _ _ _ (omega arith) _ c.is_name.ensures c.if-is_name.true

@@ -1,4 +1,3 @@
-use Prim.Native.Nat.{◌-◌}
 use Rattle.slot.proofs.Laid.{look_start, look_done, look_hit, look_on}
 use Rattle.slot.proofs.try_all.Goals as goal
 

@@ -1,22 +1,18 @@
-use Prim.Native.Nat.{◌-◌}
-use native.Mathlib.Omega.{arith}
+-- `table_rules::flags_hold` meets its contract: its chunks are the entries. Assumes nothing.
+use Rattle.std.proofs.Common.{rules, ◌≡◌, ◌*◌, take, length, ◌∙◌, ap, arith}
+use Rattle.std.proofs.lemmas.Iterator.{YieldsList-from_slice}
+use Rattle.std.proofs.lemmas.Iterator.Search.{all_from_yields_List}
+use lib.Seq.{length-take-le}
+use Rattle.paper.specs.Lists.{all}
 use Rattle.paper.specs.Computed.HandedIn.{flagged}
-use Rattle.table_rules.proofs.Entries.{all_begin, all_ends, flags_fail, flags_go}
+use Rattle.table_rules.proofs.Chunks.{all_is, entries_are}
 use Rattle.table_rules.proofs.flags_hold.Goals as goal
 
-pub loop-i-init : goal.loop-i-init
-loop-i-init c = (omega arith, all_begin 6 flagged _ _)
-
-pub returns-then-definitions-i-gt1 : goal.returns-then-definitions-i-gt1
-returns-then-definitions-i-gt1 c = flags_fail _ _ _ _ c.loop-i.invariant.1 c.loop-i-test.true (λ h. omega arith)
-
-pub returns-then-definitions-i-gt1-2 : goal.returns-then-definitions-i-gt1-2
-returns-then-definitions-i-gt1-2 c =
-    flags_fail _ _ _ _ c.loop-i.invariant.1 c.loop-i-test.true
-    (λ h. omega arith)
-
-pub loop-i-preserved : goal.loop-i-preserved
-loop-i-preserved c = (omega arith, flags_go _ _ _ _ c.loop-i.invariant.1 c.loop-i-test.true (record { invoke = omega arith; group = omega arith }))
-
 pub returns : goal.returns
-returns c = all_ends 6 flagged _ _ _ _ c.loop-i.invariant.1 c.loop-i-test.false
+unfolding flagged
+returns c =
+    let l = c.args.definitions.now in
+    let k : length (take (6 * c.args.n) l) ≡ 6 * c.args.n = length-take-le (6 * c.args.n) l c.requires in
+    all_from_yields_List flagged _ _ _ c.all.ensures.ran (YieldsList-from_slice c.as_chunks.result.0.now (cc)) (λ x b q k. search rules)
+    ∙ all_is flagged c.as_chunks.result.0.now
+    ∙ ap (all flagged) (c.as_chunks.ensures.front ∙ entries_are 6 c.args.n l c.requires (omega arith))
