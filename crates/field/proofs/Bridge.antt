@@ -6,7 +6,7 @@ use native.Mathlib.Nat.{add-zero}
 use native.Mathlib.Numerals.{add-one}
 use native.Mathlib.Omega.{arith}
 use mathlib.Core.Path.{◌≡◌, refl, sym, ap, ap₂, ◌∙◌}
-use mathlib.Core.Bool.{Bool, true, false, not, cond}
+use mathlib.Core.Bool.{Bool, true, false, cond}
 use mathlib.Core.List.{List, [], ◌∷◌}
 use lib.Dec.{leb, lit<}
 use lib.Pow.{pow-add}
@@ -18,11 +18,11 @@ use Rattle.paper.specs.Pack.Fields.{byte_width, bits_of}
 use Rattle.paper.specs.Computed.ReadPack.{Taken, short, taken, take_number, cons_taken, after_byte, take_bytes}
 use Rattle.paper.specs.Computed.ReadPack.{gave, broke, settle, field_or, number, free, bytes_field}
 use Rattle.paper.specs.Tables.Lent.{patch}
-use Rattle.paper.proofs.Apart.{zero_one, short_taken}
+use Rattle.paper.proofs.Apart.{short_taken}
 use Rattle.paper.proofs.Tables.Laws.{patch_out}
 use Rattle.field.proofs.Copy.{bytes_size}
 use Rattle.field.specs.Bits.{bit_at, bits_value, bytes_at}
-use Rattle.field.specs.Cursor.{widest, last_place, rest, field_at, any_bytes, bytes_field_at, CopiedTo, NotCopied, Left, Has}
+use Rattle.field.specs.Cursor.{widest, last_place, rest, field_at, any_bytes, bytes_field_at, CopiedTo, NotCopied, Left}
 
 pub unpack_size : (p : List ℕ) → length (bits_of p) ≡ length p * 8
 unpack_size [] = refl
@@ -194,27 +194,18 @@ module _ (p : List ℕ) (at n : ℕ) where
           let g : at + byte_width * n ≤ length p * 8 → ⊥ = λ i. f (record { inside = omega arith; counted = h }) in
           ap (settle 20 (8 * n) at any_bytes) (few_bytes n p at a (past (at + byte_width * n) (length p * 8) g))
 
--- ---- the test in the code
+-- ---- what the test in the code says, of a field's bits and of a run's bytes
 
--- the code tests the opposite, for a field's bits and for a run's bytes
-has : (len at w v : ℕ) (b : Bool) → Has len at w b → w ≡ v → not b ≡ false → Left len at v
-has len at w v true h e n = let i = h.inside in let j = h.counted in record { inside = omega arith; counted = omega arith }
-has len at w v false h e n = zero_one (cc)
+module _ (p : List ℕ) (at w : ℕ) where
+  pub bits_left : Left (length p) at (byte_width * 0 + w) → Left (length p) at w
+  bits_left l = record { inside = omega arith; counted = omega arith }
 
-has_not : (len at w v : ℕ) (b : Bool) → Has len at w b → w ≡ v → not b ≡ true → Left len at v → ⊥
-has_not len at w v true h e n l = zero_one (cc)
-has_not len at w v false h e n l = let i = l.inside in let j = l.counted in h (record { inside = omega arith; counted = omega arith })
+  pub bits_lacking : (Left (length p) at (byte_width * 0 + w) → ⊥) → Left (length p) at w → ⊥
+  bits_lacking f l = f (record { inside = omega arith; counted = omega arith })
 
-module _ (p : List ℕ) (at w : ℕ) (b : Bool) (h : Has (length p) at (byte_width * 0 + w) b) where
-  pub bits_left : not b ≡ false → Left (length p) at w
-  bits_left n = has (length p) at _ w b h (omega arith) n
+module _ (p : List ℕ) (at n : ℕ) where
+  pub bytes_left : Left (length p) at (byte_width * n + 0) → Left (length p) at (byte_width * n)
+  bytes_left l = record { inside = omega arith; counted = omega arith }
 
-  pub bits_lacking : not b ≡ true → Left (length p) at w → ⊥
-  bits_lacking n = has_not (length p) at _ w b h (omega arith) n
-
-module _ (p : List ℕ) (at n : ℕ) (b : Bool) (h : Has (length p) at (byte_width * n + 0) b) where
-  pub bytes_left : not b ≡ false → Left (length p) at (byte_width * n)
-  bytes_left e = has (length p) at _ (byte_width * n) b h (omega arith) e
-
-  pub bytes_lacking : not b ≡ true → Left (length p) at (byte_width * n) → ⊥
-  bytes_lacking e = has_not (length p) at _ (byte_width * n) b h (omega arith) e
+  pub bytes_lacking : (Left (length p) at (byte_width * n + 0) → ⊥) → Left (length p) at (byte_width * n) → ⊥
+  bytes_lacking f l = f (record { inside = omega arith; counted = omega arith })

@@ -1,6 +1,6 @@
 -- Bytes copied one by one stand in the room as one patch: what is left to set, set behind what was set, gives the whole.
 -- Assumes nothing.
-use Prim.Native.Nat.{ℕ, zero, suc, ◌+◌, ◌*◌, ◌-◌, ◌≤◌, ◌<◌, zero-le}
+use Prim.Native.Nat.{ℕ, zero, suc, ◌+◌, ◌*◌, ◌-◌, ◌≤◌, ◌<◌}
 use native.Mathlib.Omega.{arith}
 use mathlib.Core.Path.{◌≡◌, refl, sym, ap, ap₂, ◌∙◌}
 use mathlib.Core.List.{List}
@@ -20,13 +20,6 @@ pub record Copying (p : List ℕ) (at n to : ℕ) (l₀ l : List ℕ) (i : ℕ) 
   pub upto : i ≤ n
   pub long : length l ≡ length l₀
   pub left : sets l (to + i) (bytes_at p (at + byte_width * i) (n - i)) ≡ sets l₀ to (bytes_at p at n)
-
-pub none_copied : (p : List ℕ) (at n to : ℕ) (l₀ : List ℕ) → Copying p at n to l₀ l₀ 0
-none_copied p at n to l₀ =
-    let a : to + 0 ≡ to = omega arith in
-    let b : at + 8 * 0 ≡ at = omega arith in
-    let d : n - 0 ≡ n = omega arith in
-    record { upto = zero-le; long = refl; left = ap₂ (λ k m. sets l₀ k m) a (ap₂ (λ x y. bytes_at p x y) b d) }
 
 pub one_copied : (p : List ℕ) (at n to : ℕ) (l₀ l : List ℕ) (i v : ℕ) → Copying p at n to l₀ l i → i < n → v ≡ bits_value p (at + byte_width * i) byte_width
     → Copying p at n to l₀ (set l (to + i) v) (i + 1)

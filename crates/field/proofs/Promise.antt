@@ -19,11 +19,8 @@ use Rattle.paper.proofs.Pack.Verdict.{settle_got}
 use Rattle.paper.proofs.Tables.Laws.{all_drop}
 use Rattle.paper.specs.declared.Refusal.{Refusal}
 use Rattle.field.specs.declared.BitCursor.{BitCursor}
-use Rattle.field.specs.declared.Field.{Field}
-use Rattle.field.specs.declared.Field.TheVariants.{Value, Refused}
-use Rattle.field.specs.declared.Run.{Run}
-use Rattle.field.specs.declared.Run.TheVariants as run
 use Rattle.field.specs.Cursor.{widest, last_place, rest, said, field_at, any_bytes, bytes_field_at, Runs}
+use Rattle.std.specs.Prelude.{Err, Ok, Result}
 
 -- a field that was read, by its number
 module _ (p : List ℕ) (at w v to : ℕ) (t : List ℕ) (e : gave v to t ≡ field_at p at w) where
@@ -116,32 +113,32 @@ module _ (p : List ℕ) (at w : ℕ) where
       go true h = here (take_number w 0 (rest p at)) h
       go false h = (cc, cc)
 
-  said_one : (r s : Field) → said p r ≡ said p s → r ≡ s
-  said_one (Value v c) (Value u d) e = let a : v ≡ u = cc in let b : c.at ≡ d.at = cc in ap₂ (λ x y. Value x (record { at = y })) a b
-  said_one (Value v c) (Refused r) e = broke_gave (sym e)
-  said_one (Refused r) (Value v c) e = broke_gave e
-  said_one (Refused r) (Refused s) e =
+  said_one : (r s : Result (ℕ × BitCursor) Refusal) → said p r ≡ said p s → r ≡ s
+  said_one (Ok (v, c)) (Ok (u, d)) e = let a : v ≡ u = cc in let b : c.at ≡ d.at = cc in ap₂ (λ x y. Ok (x, (record { at = y }))) a b
+  said_one (Ok (v, c)) (Err r) e = broke_gave (sym e)
+  said_one (Err r) (Ok (v, c)) e = broke_gave e
+  said_one (Err r) (Err s) e =
       let a : r.number ≡ s.number = cc in
       let b : r.place ≡ s.place = cc in
-      ap₂ (λ x y. Refused (record { number = x; place = y })) a b
+      ap₂ (λ x y. Err (record { number = x; place = y })) a b
 
   -- NOTHING IS LEFT OPEN: two answers that the promise allows coincide
-  pub one_field : (r s : Field) → said p r ≡ field_at p at w → said p s ≡ field_at p at w → r ≡ s
+  pub one_field : (r s : Result (ℕ × BitCursor) Refusal) → said p r ≡ field_at p at w → said p s ≡ field_at p at w → r ≡ s
   one_field r s d e = said_one r s (d ∙ sym e)
 
-  module _ (r : Field) (promised : said p r ≡ field_at p at w) where
+  module _ (r : Result (ℕ × BitCursor) Refusal) (promised : said p r ≡ field_at p at w) where
     -- the value and the cursor behind it, exactly where the bits of that value stand at the place
-    pub value_exactly : (v : ℕ) (c : BitCursor) → (r ≡ Value v c) ↔ (Stands p at w v × (c.at ≡ at + w))
+    pub value_exactly : (v : ℕ) (c : BitCursor) → (r ≡ Ok (v, c)) ↔ (Stands p at w v × (c.at ≡ at + w))
     value_exactly v c = (
       λ e. stands v c.at (ap (said p) (sym e) ∙ promised),
-      λ (s, o). said_one r (Value v c) (promised ∙ found v s ∙ ap (λ k. gave v k (rest p k)) (sym o)),
+      λ (s, o). said_one r (Ok (v, c)) (promised ∙ found v s ∙ ap (λ k. gave v k (rest p k)) (sym o)),
     )
 
     -- otherwise 19, at the place
-    pub refused_exactly : (x : Refusal) → (r ≡ Refused x) ↔ ((x.number ≡ pack_ends) × (x.place ≡ at) × ((v : ℕ) → Stands p at w v → ⊥))
+    pub refused_exactly : (x : Refusal) → (r ≡ Err x) ↔ ((x.number ≡ pack_ends) × (x.place ≡ at) × ((v : ℕ) → Stands p at w v → ⊥))
     refused_exactly x = (to, from)
       where
-        to : r ≡ Refused x → (x.number ≡ pack_ends) × (x.place ≡ at) × ((v : ℕ) → Stands p at w v → ⊥)
+        to : r ≡ Err x → (x.number ≡ pack_ends) × (x.place ≡ at) × ((v : ℕ) → Stands p at w v → ⊥)
         to e = by_step (field_at p at w) refl
           where
             by_step : (o : FieldStep ℕ) → field_at p at w ≡ o → (x.number ≡ pack_ends) × (x.place ≡ at) × ((v : ℕ) → Stands p at w v → ⊥)
@@ -153,28 +150,28 @@ module _ (p : List ℕ) (at w : ℕ) where
                 let q : x.place ≡ k = cc in
                 (n ∙ a, q ∙ b, λ v s. broke_gave (sym i ∙ found v s))
 
-        from : (x.number ≡ pack_ends) × (x.place ≡ at) × ((v : ℕ) → Stands p at w v → ⊥) → r ≡ Refused x
+        from : (x.number ≡ pack_ends) × (x.place ≡ at) × ((v : ℕ) → Stands p at w v → ⊥) → r ≡ Err x
         from (n, q, f) = by_answer r promised
           where
-            by_answer : (r : Field) → said p r ≡ field_at p at w → r ≡ Refused x
-            by_answer (Value v c) i = absurd (f v (stands v c.at i).0)
-            by_answer (Refused y) i =
+            by_answer : (r : Result (ℕ × BitCursor) Refusal) → said p r ≡ field_at p at w → r ≡ Err x
+            by_answer (Ok (v, c)) i = absurd (f v (stands v c.at i).0)
+            by_answer (Err y) i =
                 let (a, b) = cut_so y.number y.place (sym i) in
-                ap₂ (λ j k. Refused (record { number = j; place = k })) (a ∙ sym n) (b ∙ sym q)
+                ap₂ (λ j k. Err (record { number = j; place = k })) (a ∙ sym n) (b ∙ sym q)
 
 -- ---- a run
 
 -- two outcomes that the promise allows coincide, in the answer and in the room
-pub one_run : (p : List ℕ) (at n to : ℕ) (room a b : List ℕ) (r s : Run) → Runs p at n to room a r → Runs p at n to room b s → (r ≡ s) × (a ≡ b)
-one_run p at n to room a b (run.Copied c) (run.Copied d) x y =
+pub one_run : (p : List ℕ) (at n to : ℕ) (room a b : List ℕ) (r s : Result BitCursor Refusal) → Runs p at n to room a r → Runs p at n to room b s → (r ≡ s) × (a ≡ b)
+one_run p at n to room a b (Ok c) (Ok d) x y =
     let e : gave x.bytes c.at (rest p c.at) ≡ gave y.bytes d.at (rest p d.at) = sym x.is ∙ y.is in
     let i : c.at ≡ d.at = cc in
     let j : x.bytes ≡ y.bytes = cc in
-    (ap (λ k. run.Copied (record { at = k })) i, x.put ∙ ap (λ l. patch to l room) j ∙ sym y.put)
-one_run p at n to room a b (run.Copied c) (run.Refused s) x y = broke_gave (sym y.is ∙ x.is)
-one_run p at n to room a b (run.Refused r) (run.Copied d) x y = broke_gave (sym x.is ∙ y.is)
-one_run p at n to room a b (run.Refused r) (run.Refused s) x y =
+    (ap (λ k. Ok (record { at = k })) i, x.put ∙ ap (λ l. patch to l room) j ∙ sym y.put)
+one_run p at n to room a b (Ok c) (Err s) x y = broke_gave (sym y.is ∙ x.is)
+one_run p at n to room a b (Err r) (Ok d) x y = broke_gave (sym x.is ∙ y.is)
+one_run p at n to room a b (Err r) (Err s) x y =
     let e : broke r.number r.place ≡ broke s.number s.place = sym x.is ∙ y.is in
     let i : r.number ≡ s.number = cc in
     let j : r.place ≡ s.place = cc in
-    (ap₂ (λ k l. run.Refused (record { number = k; place = l })) i j, x.kept ∙ sym y.kept)
+    (ap₂ (λ k l. Err (record { number = k; place = l })) i j, x.kept ∙ sym y.kept)

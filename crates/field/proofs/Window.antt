@@ -80,9 +80,6 @@ window s p m (suc n) B h =
 one_up : (n : ℕ) → n ≤ 32 → (1 * 2 ^ n) % 2 ^ 64 ≡ 2 ^ n
 one_up n h = shl_exact 1 n 64 (lit< tt) (omega arith) ∙ one-mul (2 ^ n)
 
-pub mask_is : (n : ℕ) → n ≤ 32 → 1 ≤ (1 * 2 ^ n) % 2 ^ 64
-mask_is n h = rw (one_up n h) (pow_pos n)
-
 pub masked : (x n : ℕ) → n ≤ 32 → bit_and x ((1 * 2 ^ n) % 2 ^ 64 - 1) ≡ x % 2 ^ n
 masked x n h = ap (λ (y : ℕ). bit_and x (y - 1)) (one_up n h) ∙ and_mask x n
 

@@ -5,10 +5,9 @@ use Rattle.paper.specs.Refusals.{pack_ends}
 use Rattle.paper.specs.Pack.Fields.{byte_width, bits_of}
 use Rattle.paper.specs.Computed.ReadPack.{FieldStep, gave, broke, number, free, bytes_field}
 use Rattle.paper.specs.Tables.Lent.{patch}
-use Rattle.field.specs.declared.Field.{Field}
-use Rattle.field.specs.declared.Field.TheVariants.{Value, Refused}
-use Rattle.field.specs.declared.Run.{Run}
-use Rattle.field.specs.declared.Run.TheVariants as run
+use Rattle.std.specs.Prelude.{Err, Ok, Result}
+use Rattle.field.specs.declared.BitCursor.{BitCursor}
+use Rattle.paper.specs.declared.Refusal.{Refusal}
 
 -- the widest field, in bits
 abbrev pub widest : ℕ
@@ -25,9 +24,9 @@ rest p at = drop at (bits_of p)
 -- ---- a field
 
 -- what the answer says, in the paper's words
-abbrev pub said : List ℕ → Field → FieldStep ℕ
-said p (Value v c) = gave v c.at (rest p c.at)
-said p (Refused r) = broke r.number r.place
+abbrev pub said : List ℕ → Result (ℕ × BitCursor) Refusal → FieldStep ℕ
+said p (Ok (v, c)) = gave v c.at (rest p c.at)
+said p (Err r) = broke r.number r.place
 
 -- the field of w bits at a place, whatever its number. A width that no field has is refused as a field that is cut
 unfoldable pub field_at : List ℕ → ℕ → ℕ → FieldStep ℕ
@@ -54,9 +53,9 @@ pub record NotCopied (g : FieldStep (List ℕ)) (room₀ room₁ : List ℕ) (nu
   pub is : g ≡ broke number place
   pub kept : room₁ ≡ room₀
 
-abbrev pub Runs : List ℕ → (at n to : ℕ) (room₀ room₁ : List ℕ) → Run → Type 0
-Runs p at n to room₀ room₁ (run.Copied c) = CopiedTo p (bytes_field_at p at n) to room₀ room₁ c.at
-Runs p at n to room₀ room₁ (run.Refused r) = NotCopied (bytes_field_at p at n) room₀ room₁ r.number r.place
+abbrev pub Runs : List ℕ → (at n to : ℕ) (room₀ room₁ : List ℕ) → Result BitCursor Refusal → Type 0
+Runs p at n to room₀ room₁ (Ok c) = CopiedTo p (bytes_field_at p at n) to room₀ room₁ c.at
+Runs p at n to room₀ room₁ (Err r) = NotCopied (bytes_field_at p at n) room₀ room₁ r.number r.place
 
 -- ---- so many bits are left
 

@@ -42,7 +42,7 @@ const WINDOW: usize = 5;
 
 const WINDOW_WIDTH: usize = 40;
 
-const BYTE_VALUES: u64 = 256;
+const BYTE_VALUES: u16 = 256;
 
 // The last position that a cursor can have.
 const LAST_PLACE: usize = 18446744073709551615;
@@ -53,39 +53,11 @@ pub struct BitCursor {
     pub at: usize,
 }
 
-// A field with the cursor behind it, or the refusal with the bit offset of the field's start.
-#[derive(Drop)]
-pub enum Field {
-    Value(u32, BitCursor),
-    Refused(Refusal),
-}
-
-// The cursor behind a run of bytes, or the refusal.
-#[derive(Drop)]
-pub enum Run {
-    Copied(BitCursor),
-    Refused(Refusal),
-}
-
-// A byte as a number to reckon with: the call asks only that the byte is there.
-fn wide(x: u8) -> u64
-    ensures { (result ≡ x) × (result < 256) }
-{
-    x as u64
-}
-
 // The byte at i; past the end 0.
-fn byte_or_0(s: &[u8], i: usize) -> u64
-    ensures { (result ≡ get_or s.now i 0) × (result < 256) }
+fn byte_or_0(s: &[u8], i: usize) -> u8
+    ensures { result ≡ get_or s.now i 0 }
 {
-    if i < s.len() { wide(s[i]) } else { 0 }
-}
-
-fn joined(a: u64, b: u64, c: u64, d: u64, e: u64) -> u64
-    requires { (a < 256) × ((b < 256) × ((c < 256) × ((d < 256) × (e < 256)))) }
-    ensures { result ≡ (((a * 256 + b) * 256 + c) * 256 + d) * 256 + e }
-{
-    (((a * BYTE_VALUES + b) * BYTE_VALUES + c) * BYTE_VALUES + d) * BYTE_VALUES + e
+    s.get(i).copied().unwrap_or(0)
 }
 
 // The five bytes from i on as one number. Near the end of the pack those that are missing count as 0.
@@ -94,21 +66,18 @@ fn five(s: &[u8], i: usize) -> u64
     ensures { result ≡ bytes_value s.now i 5 }
 {
     if i + WINDOW <= s.len() {
-        return joined(
-            wide(s[i]),
-            wide(s[i + 1]),
-            wide(s[i + 2]),
-            wide(s[i + 3]),
-            wide(s[i + 4]),
-        );
+        return u64::from_be_bytes([0, 0, 0, s[i], s[i + 1], s[i + 2], s[i + 3], s[i + 4]]);
     }
-    joined(
+    u64::from_be_bytes([
+        0,
+        0,
+        0,
         byte_or_0(s, i),
         byte_or_0(s, i + 1),
         byte_or_0(s, i + 2),
         byte_or_0(s, i + 3),
         byte_or_0(s, i + 4),
-    )
+    ])
 }
 
 // The number that the bits from a place on are: five bytes, a shift and a mask.
@@ -117,10 +86,9 @@ fn bits_at(pack: &[u8], at: usize, width: usize) -> u32
     ensures { result ≡ bits_value pack.now at width }
 {
     let all = five(pack, at / BYTE_WIDTH);
-    let one: u64 = 1;
     let shift = WINDOW_WIDTH - at % BYTE_WIDTH - width;
-    let v = (all >> shift) & ((one << width) - 1);
-    v as u32
+    let mask = (1u64 << width) - 1;
+    ((all >> shift) & mask) as u32
 }
 
 // A pack of `len` bytes has so many bytes and bits behind a place, and a cursor can stand behind them. Nothing is multiplied by the length.
@@ -129,24 +97,12 @@ fn has_bits(len: usize, at: usize, bytes: usize, bits: usize) -> bool
     ensures { Has len at (byte_width * bytes + bits) result }
 {
     let first = at / BYTE_WIDTH;
-    if len < first {
-        return false;
-    }
-    let left = len - first;
-    if left < bytes {
-        return false;
-    }
-    if left - bytes < (at % BYTE_WIDTH + bits + (BYTE_WIDTH - 1)) / BYTE_WIDTH {
-        return false;
-    }
     let room = LAST_PLACE - at;
-    if room / BYTE_WIDTH < bytes {
-        return false;
-    }
-    if room - BYTE_WIDTH * bytes < bits {
-        return false;
-    }
-    true
+    first <= len
+        && bytes <= len - first
+        && (at % BYTE_WIDTH + bits).div_ceil(BYTE_WIDTH) <= len - first - bytes
+        && bytes <= room / BYTE_WIDTH
+        && bits <= room - BYTE_WIDTH * bytes
 }
 
 // The byte whose bits start at a place: the low bits of one byte of the pack and the high bits of the next.
@@ -154,7 +110,7 @@ fn byte_at(pack: &[u8], at: usize) -> u8
     ensures { result ≡ bits_value pack.now at byte_width }
 {
     let first = at / BYTE_WIDTH;
-    let two = byte_or_0(pack, first) * BYTE_VALUES + byte_or_0(pack, first + 1);
+    let two = u16::from_be_bytes([byte_or_0(pack, first), byte_or_0(pack, first + 1)]);
     let shift = BYTE_WIDTH - at % BYTE_WIDTH;
     ((two >> shift) % BYTE_VALUES) as u8
 }
@@ -165,53 +121,39 @@ fn copy_bytes(pack: &[u8], at: usize, n: usize, room: &mut [u8], to: usize)
     requires n_in_bounds { to + n ≤ length room.old }
     ensures { room.new ≡ patch to (bytes_at pack.now at n) room.old }
 {
-    let mut i = 0;
-    while i < n {
+    for i in 0..n {
         room[to + i] = byte_at(pack, at + BYTE_WIDTH * i);
-        i += 1;
     }
 }
 
 impl BitCursor {
     // The next field, of 1 to 32 bits.
-    pub fn field(self, pack: &[u8], width: usize) -> Field
+    pub fn field(self, pack: &[u8], width: usize) -> Result<(u32, BitCursor), Refusal>
         ensures { said pack.now result ≡ field_at pack.now self.at width }
     {
         let at = self.at;
-        if width == 0 {
-            return Field::Refused(Refusal {
+        if width == 0 || WIDEST < width || !has_bits(pack.len(), at, 0, width) {
+            return Err(Refusal {
                 number: PACK_ENDS,
                 place: at,
             });
         }
-        if WIDEST < width {
-            return Field::Refused(Refusal {
-                number: PACK_ENDS,
-                place: at,
-            });
-        }
-        if !has_bits(pack.len(), at, 0, width) {
-            return Field::Refused(Refusal {
-                number: PACK_ENDS,
-                place: at,
-            });
-        }
-        Field::Value(bits_at(pack, at, width), BitCursor { at: at + width })
+        Ok((bits_at(pack, at, width), BitCursor { at: at + width }))
     }
 
     // The next n bytes, one field, into lent room at a place; where they have no room there nothing is written.
-    pub fn bytes(self, pack: &[u8], n: usize, room: &mut [u8], to: usize) -> Run
+    pub fn bytes(
+        self,
+        pack: &[u8],
+        n: usize,
+        room: &mut [u8],
+        to: usize,
+    ) -> Result<BitCursor, Refusal>
         ensures { Runs pack.now self.at n to room.old room.new result }
     {
         let at = self.at;
-        if n == 0 {
-            return Run::Refused(Refusal {
-                number: PACK_ENDS,
-                place: at,
-            });
-        }
-        if !has_bits(pack.len(), at, n, 0) {
-            return Run::Refused(Refusal {
+        if n == 0 || !has_bits(pack.len(), at, n, 0) {
+            return Err(Refusal {
                 number: PACK_ENDS,
                 place: at,
             });
@@ -219,13 +161,9 @@ impl BitCursor {
         let end = BitCursor {
             at: at + BYTE_WIDTH * n,
         };
-        if room.len() < n {
-            return Run::Copied(end);
+        if n <= room.len() && to <= room.len() - n {
+            copy_bytes(pack, at, n, room, to);
         }
-        if room.len() - n < to {
-            return Run::Copied(end);
-        }
-        copy_bytes(pack, at, n, room, to);
-        Run::Copied(end)
+        Ok(end)
     }
 }

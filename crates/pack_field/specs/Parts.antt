@@ -7,8 +7,9 @@ use Rattle.paper.specs.Pack.Fields.{byte_width}
 use Rattle.paper.specs.Computed.ReadPack.{FieldStep, gave, broke}
 use Rattle.paper.specs.Tables.Lent.{patch}
 use Rattle.field.specs.Cursor.{rest}
-use Rattle.pack_field.specs.declared.PartRead.{PartRead}
-use Rattle.pack_field.specs.declared.PartRead.TheVariants as part
+use Rattle.std.specs.Prelude.{Err, Ok, Result}
+use Rattle.field.specs.declared.BitCursor.{BitCursor}
+use Rattle.paper.specs.declared.Refusal.{Refusal}
 
 -- "No pack exceeds 40,519 bytes": no field that is due stands behind so many bits, whatever the bytes are
 abbrev pub max_place : ℕ
@@ -22,6 +23,6 @@ pub record Fills {A : Type 0} (f : A → List ℕ) (g : FieldStep (List A)) (at 
   pub size : length all ≡ n
   pub is : l₁ ≡ patch start (joined (map f all)) l₀
 
-abbrev pub Filled : {A : Type 0} → (A → List ℕ) → FieldStep (List A) → (at width n start : ℕ) (p l₀ l₁ : List ℕ) → PartRead → Type 0
-Filled f g at width n start p l₀ l₁ (part.Read c) = Fills f g at width n start p l₀ l₁ c.at
-Filled f g at width n start p l₀ l₁ (part.Refused r) = g ≡ broke r.number r.place
+abbrev pub Filled : {A : Type 0} → (A → List ℕ) → FieldStep (List A) → (at width n start : ℕ) (p l₀ l₁ : List ℕ) → Result BitCursor Refusal → Type 0
+Filled f g at width n start p l₀ l₁ (Ok c) = Fills f g at width n start p l₀ l₁ c.at
+Filled f g at width n start p l₀ l₁ (Err r) = g ≡ broke r.number r.place

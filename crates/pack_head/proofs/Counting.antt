@@ -12,11 +12,13 @@ use Rattle.paper.specs.CharDef.Reading.{Reading}
 use Rattle.paper.specs.Pack.Fields.{version, version_width, categories_width, lines_width, ranges_width, references_width, head_width}
 use Rattle.paper.specs.Computed.ReadPack.{FieldStep, gave, broke, number, field_or, up_to, count_rule, read_counted, read_fields}
 use Rattle.field.specs.Cursor.{rest, field_at}
-use Rattle.pack_head.specs.declared.HeadRead.{HeadRead}
-use Rattle.pack_head.specs.declared.HeadRead.TheVariants.{Read, Refused}
 use Rattle.pack_field.specs.Parts.{max_place}
 use Rattle.pack_head.specs.Head.{last_width, counts_width, read_last, HeadIn, HeadIs}
 use Rattle.pack_field.proofs.Steps.{go_on, stop, behind, alike, cut, keeps, breaks}
+use Rattle.std.specs.Prelude.{Err, Ok, Result}
+use Rattle.field.specs.declared.BitCursor.{BitCursor}
+use Rattle.pack_head.specs.declared.Head.{Head}
+use Rattle.paper.specs.declared.Refusal.{Refusal}
 
 -- a count within its limit
 up_to_lem : (w limit at : ℕ) (s : List ℕ) → number w (count_rule limit 0) at s ≡ number w (up_to limit) at s
@@ -40,8 +42,8 @@ counted p w limit at e = sym (up_to_lem w limit at (rest p at)) ∙ sym e
 
 -- what is behind decides
 pub head_after : (p : List ℕ) (at at₁ width width₁ : ℕ) (g g₁ : FieldStep Reading) → g ≡ g₁ → at₁ + width₁ ≡ at + width
-    → (r : HeadRead) → HeadIs p at₁ width₁ g₁ r → HeadIs p at width g r
-head_after p at at₁ width width₁ g g₁ e w (Read h c) z =
+    → (r : Result (Head × BitCursor) Refusal) → HeadIs p at₁ width₁ g₁ r → HeadIs p at width g r
+head_after p at at₁ width width₁ g g₁ e w (Ok (h, c)) z =
     let o = z.on in
     record {
       categories_fit = z.categories_fit;
@@ -51,7 +53,7 @@ head_after p at at₁ width width₁ g g₁ e w (Read h c) z =
       on = omega arith;
       reads = e ∙ z.reads;
     }
-head_after p at at₁ width width₁ g g₁ e w (Refused r) z = e ∙ z
+head_after p at at₁ width width₁ g g₁ e w (Err r) z = e ∙ z
 
 -- ---- ranges and references
 
@@ -93,7 +95,7 @@ module _ (p : List ℕ) (at : ℕ) where
     unfolding read_counted
     first_stop_2 e = go_on _ _ (counted p categories_width max_categories at a) (stop _ _ (sym (up_to_lem lines_width max_category_lines at₁ (rest p at₁)) ∙ sym e))
 
-    pub first_read : {lines at₂ : ℕ} → Counted p lines_width max_category_lines at₁ lines at₂ → (r : HeadRead)
+    pub first_read : {lines at₂ : ℕ} → Counted p lines_width max_category_lines at₁ lines at₂ → (r : Result (Head × BitCursor) Refusal)
         → HeadIs p at₂ last_width (read_last categories lines at₂ (rest p at₂)) r → HeadIs p at counts_width (read_counted at (rest p at)) r
     unfolding read_counted read_last
     first_read {lines} {at₂} b r z =
@@ -120,7 +122,7 @@ module _ (p : List ℕ) (at : ℕ) (near : at ≤ max_place) where
     pub version_on : v ≡ version → to ≡ at + version_width
     version_on i = (behind pack_version version_width at (eqb version) (rest p at) (one_read i)).on
 
-    pub version_read : v ≡ version → (r : HeadRead) → HeadIs p to counts_width (read_counted to (rest p to)) r → HeadIs p at head_width (read_fields at (rest p at)) r
+    pub version_read : v ≡ version → (r : Result (Head × BitCursor) Refusal) → HeadIs p to counts_width (read_counted to (rest p to)) r → HeadIs p at head_width (read_fields at (rest p at)) r
     unfolding read_fields
     version_read i r z =
         let o = version_on i in

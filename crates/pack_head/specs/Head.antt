@@ -8,8 +8,9 @@ use Rattle.paper.specs.Computed.ReadPack.{FieldStep, broke, Reader, ◌▹◌}
 use Rattle.paper.specs.Computed.ReadPack.{number, up_to, read_body}
 use Rattle.field.specs.Cursor.{rest}
 use Rattle.pack_head.specs.declared.Head.{Head}
-use Rattle.pack_head.specs.declared.HeadRead.{HeadRead}
-use Rattle.pack_head.specs.declared.HeadRead.TheVariants as head
+use Rattle.std.specs.Prelude.{Err, Ok, Result}
+use Rattle.field.specs.declared.BitCursor.{BitCursor}
+use Rattle.paper.specs.declared.Refusal.{Refusal}
 
 -- of the counts of ranges and references, and of all counts
 abbrev pub last_width : ℕ
@@ -35,6 +36,6 @@ pub record HeadIn (p : List ℕ) (at width : ℕ) (g : FieldStep Reading) (h : H
   pub on : next ≡ at + width
   pub reads : g ≡ read_body h.categories h.lines h.ranges h.references next (rest p next)
 
-abbrev pub HeadIs : List ℕ → (at width : ℕ) → FieldStep Reading → HeadRead → Type 0
-HeadIs p at width g (head.Read h c) = HeadIn p at width g h c.at
-HeadIs p at width g (head.Refused r) = g ≡ broke r.number r.place
+abbrev pub HeadIs : List ℕ → (at width : ℕ) → FieldStep Reading → Result (Head × BitCursor) Refusal → Type 0
+HeadIs p at width g (Ok (h, c)) = HeadIn p at width g h c.at
+HeadIs p at width g (Err r) = g ≡ broke r.number r.place

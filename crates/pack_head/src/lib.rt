@@ -10,7 +10,7 @@ ghost use Rattle.pack_field.specs.Parts.{max_place};
 ghost use Rattle.pack_head.specs.Head.{HeadIs, last_width, counts_width, read_last};
 
 use field::{
-    BitCursor, CATEGORIES_WIDTH, Field, LINES_WIDTH, RANGES_WIDTH, REFERENCES_WIDTH, VERSION_WIDTH,
+    BitCursor, CATEGORIES_WIDTH, LINES_WIDTH, RANGES_WIDTH, REFERENCES_WIDTH, VERSION_WIDTH,
 };
 use pack_field::limited;
 use paper::{
@@ -29,69 +29,48 @@ pub struct Head {
     pub references: usize,
 }
 
-#[derive(Drop)]
-pub enum HeadRead {
-    Read(Head, BitCursor),
-    Refused(Refusal),
-}
-
 // The counts of ranges and references.
-fn last_counts(pack: &[u8], from: BitCursor, categories: usize, lines: usize) -> HeadRead
+fn last_counts(
+    pack: &[u8],
+    from: BitCursor,
+    categories: usize,
+    lines: usize,
+) -> Result<(Head, BitCursor), Refusal>
     requires { (from.at + last_width ≤ max_place) × ((categories ≤ max_categories) × (lines ≤ max_category_lines)) }
     ensures { HeadIs pack.now from.at last_width (read_last categories lines from.at (rest pack.now from.at)) result }
 {
-    match limited(pack, from, RANGES_WIDTH, 0, MAX_RANGES) {
-        Field::Refused(r) => HeadRead::Refused(r),
-        Field::Value(ranges, second) => {
-            match limited(pack, second, REFERENCES_WIDTH, 0, MAX_REFERENCES) {
-                Field::Refused(r) => HeadRead::Refused(r),
-                Field::Value(references, next) => HeadRead::Read(
-                    Head {
-                        categories,
-                        lines,
-                        ranges: ranges as usize,
-                        references: references as usize,
-                    },
-                    next,
-                ),
-            }
-        }
-    }
+    let (ranges, second) = limited(pack, from, RANGES_WIDTH, 0, MAX_RANGES)?;
+    let (references, next) = limited(pack, second, REFERENCES_WIDTH, 0, MAX_REFERENCES)?;
+    let head = Head {
+        categories,
+        lines,
+        ranges: ranges as usize,
+        references: references as usize,
+    };
+    Ok((head, next))
 }
 
 // The counts of the head, behind the version.
-fn read_counts(pack: &[u8], from: BitCursor) -> HeadRead
+fn read_counts(pack: &[u8], from: BitCursor) -> Result<(Head, BitCursor), Refusal>
     requires { from.at + counts_width ≤ max_place }
     ensures { HeadIs pack.now from.at counts_width (read_counted from.at (rest pack.now from.at)) result }
 {
-    match limited(pack, from, CATEGORIES_WIDTH, 0, MAX_CATEGORIES) {
-        Field::Refused(r) => HeadRead::Refused(r),
-        Field::Value(categories, second) => {
-            match limited(pack, second, LINES_WIDTH, 0, MAX_CATEGORY_LINES) {
-                Field::Refused(r) => HeadRead::Refused(r),
-                Field::Value(lines, third) => {
-                    last_counts(pack, third, categories as usize, lines as usize)
-                }
-            }
-        }
-    }
+    let (categories, second) = limited(pack, from, CATEGORIES_WIDTH, 0, MAX_CATEGORIES)?;
+    let (lines, third) = limited(pack, second, LINES_WIDTH, 0, MAX_CATEGORY_LINES)?;
+    last_counts(pack, third, categories as usize, lines as usize)
 }
 
 // The head: the version, then the counts.
-pub fn read_head(pack: &[u8], from: BitCursor) -> HeadRead
+pub fn read_head(pack: &[u8], from: BitCursor) -> Result<(Head, BitCursor), Refusal>
     requires { from.at + head_width ≤ max_place }
     ensures { HeadIs pack.now from.at head_width (read_fields from.at (rest pack.now from.at)) result }
 {
-    match from.field(pack, VERSION_WIDTH) {
-        Field::Refused(r) => HeadRead::Refused(r),
-        Field::Value(version, next) => {
-            if version != VERSION {
-                return HeadRead::Refused(Refusal {
-                    number: PACK_VERSION,
-                    place: from.at,
-                });
-            }
-            read_counts(pack, next)
-        }
+    let (version, next) = from.field(pack, VERSION_WIDTH)?;
+    if version != VERSION {
+        return Err(Refusal {
+            number: PACK_VERSION,
+            place: from.at,
+        });
     }
+    read_counts(pack, next)
 }

@@ -29,7 +29,6 @@ use Rattle.mark.specs.Mark.{mark}
 use Rattle.name_rules.specs.Marked.{Marked}
 use Rattle.name_rules.proofs.Placed.{placed_snoc}
 use Rattle.pack_names.specs.Names.{Store, Stored, Named}
-use Rattle.pack_field.proofs.Steps.{fails, passes}
 
 -- a name behind others in a store of n bytes
 stored_part : (n : ℕ) (ns : List (List ℕ)) (name store : List ℕ) (start len : ℕ) → store ≡ padded n (joined (ns ++ (name ∷ [])))
@@ -164,15 +163,15 @@ module _ (ns : List (List ℕ)) (name : List ℕ) (s : Store) (i start len : ℕ
     formed_is : b ≡ formed name
     formed_is = e ∙ ap (λ m. formed (take m (drop start s.names))) whole ∙ ap formed (last_stored size)
 
-    pub ill : not b ≡ true → false ≡ name_rule ns name
+    pub ill : b ≡ false → b ≡ name_rule ns name
     unfolding name_rule
-    ill h = sym (ap (λ x. x && not (any (same name) ns)) (sym formed_is ∙ fails b b refl h))
+    ill h = h ∙ sym (ap (λ x. x && not (any (same name) ns)) (sym formed_is ∙ h))
 
-    pub new_or_not : not b ≡ false → (r : Bool) → r ≡ not (any (same (name_of i s.categories s.names)) (placed_names i s.categories s.names))
+    pub new_or_not : b ≡ true → (r : Bool) → r ≡ not (any (same (name_of i s.categories s.names)) (placed_names i s.categories s.names))
         → r ≡ name_rule ns name
     unfolding name_rule
     new_or_not h r q =
-        q ∙ ap₂ (λ x y. not (any (same x) y)) last_name before_last ∙ ap (λ x. x && not (any (same name) ns)) (sym (passes b b refl h) ∙ formed_is)
+        q ∙ ap₂ (λ x y. not (any (same x) y)) last_name before_last ∙ ap (λ x. x && not (any (same name) ns)) (sym h ∙ formed_is)
 
 -- ---- one name more
 

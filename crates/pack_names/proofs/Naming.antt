@@ -21,13 +21,14 @@ use Rattle.mark.specs.Mark.{mark}
 use Rattle.name_rules.proofs.Once.{any_snoc}
 use Rattle.field.specs.Cursor.{rest, field_at, bytes_field_at, CopiedTo}
 use Rattle.field.proofs.Promise.{run_on, run_size}
-use Rattle.pack_field.specs.declared.CountRead.{CountRead}
-use Rattle.pack_field.specs.declared.CountRead.TheVariants.{Read, Refused}
 use Rattle.pack_field.specs.Parts.{max_place}
-use Rattle.pack_names.specs.Names.{Store, Stored, Named, Naming, KeptIs, NameIn, NameIs, NamesIn}
-use Rattle.pack_field.proofs.Steps.{go_on, stop, cut, keeps, breaks, behind, bytes_keep, bytes_break, fails, passes}
-use Rattle.pack_field.proofs.Fill.{prepend, prepend_more, prepend_none, put_first}
+use Rattle.pack_names.specs.Names.{Store, Named, Naming, KeptIs, NameIn, NameIs, NamesIn}
+use Rattle.pack_field.proofs.Steps.{go_on, stop, cut, keeps, breaks, behind, bytes_keep, bytes_break}
+use Rattle.pack_field.proofs.Fill.{prepend, prepend_more, put_first}
 use Rattle.pack_names.proofs.Names.{named_more}
+use Rattle.std.specs.Prelude.{Err, Ok, Result}
+use Rattle.field.specs.declared.BitCursor.{BitCursor}
+use Rattle.paper.specs.declared.Refusal.{Refusal}
 
 -- ---- a name's bytes
 
@@ -46,16 +47,16 @@ module _ (p : List ℕ) (at len : ℕ) (near : at + byte_width * len ≤ max_pla
   now_naming z = record { before = z.before ++ (c.bytes ∷ []); held = entered z.held }
 
   module _ (r : Bool) (k : KeptIs s₁ i used len r) (ns : List (List ℕ)) (z : Named ns s₀ i used) where
-    pub name_broken : not r ≡ true → bytes_field len (name_rule ns) at (rest p at) ≡ broke pack_rule at
-    name_broken h = bytes_break p at len near some (name_rule ns) c.is (fails r _ (k ns c.bytes (entered z) size) h)
+    pub name_broken : r ≡ false → bytes_field len (name_rule ns) at (rest p at) ≡ broke pack_rule at
+    name_broken h = bytes_break p at len near some (name_rule ns) c.is (sym (k ns c.bytes (entered z) size) ∙ h)
 
-    pub name_in : not r ≡ false → NameIn p at 0 (bytes_field len (name_rule ns) at (rest p at)) ns s₁ i used len next
+    pub name_in : r ≡ true → NameIn p at 0 (bytes_field len (name_rule ns) at (rest p at)) ns s₁ i used len next
     name_in h =
         let o = run_on p at len c.bytes next (rest p next) c.is in
         record {
           name = c.bytes;
           on = omega arith;
-          reads = bytes_keep p at len near some (name_rule ns) c.is (passes r _ (k ns c.bytes (entered z) size) h);
+          reads = bytes_keep p at len near some (name_rule ns) c.is (sym (k ns c.bytes (entered z) size) ∙ h);
           size = size;
           held = entered z;
         }
@@ -102,13 +103,13 @@ module _ (p : List ℕ) (at used : ℕ) (near : at ≤ max_place) where
       unfolding read_name
       name_is ns = go_on _ _ (sym length_read) refl
 
-      pub name_follows : (ns : List (List ℕ)) (s : Store) (i : ℕ) (r : CountRead) → NameIs p to 0 (bytes_field v (name_rule ns) to (rest p to)) ns s i used r
+      pub name_follows : (ns : List (List ℕ)) (s : Store) (i : ℕ) (r : Result (ℕ × BitCursor) Refusal) → NameIs p to 0 (bytes_field v (name_rule ns) to (rest p to)) ns s i used r
           → NameIs p at name_length_width (read_name used ns at (rest p at)) ns s i used r
-      name_follows ns s i (Read len c) z =
+      name_follows ns s i (Ok (len, c)) z =
           let o = length_on in
           let q = z.on in
           record { name = z.name; on = omega arith; reads = name_is ns ∙ z.reads; size = z.size; held = z.held }
-      name_follows ns s i (Refused r) z = name_is ns ∙ z
+      name_follows ns s i (Err r) z = name_is ns ∙ z
 
 -- ---- all names
 
@@ -166,21 +167,7 @@ pub record NamesGoing (p : List ℕ) (at₀ n : ℕ) (s : Store) (at used i : �
   pub held : Named all s i used
   pub left : read_names n 0 [] at₀ (rest p at₀) ≡ prepend all (read_names (n - i) used all at (rest p at))
 
-pub going_naming : {p : List ℕ} {at₀ n : ℕ} {s : Store} {at used i : ℕ} → NamesGoing p at₀ n s at used i → Naming s i used
-going_naming z = record { before = z.all; held = z.held }
-
 module _ (p : List ℕ) (at₀ n : ℕ) where
-  pub no_name_yet : (s : Store) → Stored [] s.names s.categories 0 0 → length s.marks ≡ max_categories → NamesGoing p at₀ n s at₀ 0 0
-  no_name_yet s h l =
-      let e : n ≡ n - 0 = omega arith in
-      record {
-        all = [];
-        upto = omega arith;
-        on = omega arith;
-        held = record { holds = h; marks_long = l; marked = λ k lt. absurd (omega arith) };
-        left = prepend_none (read_names n 0 [] at₀ (rest p at₀)) ∙ ap (λ m. prepend [] (read_names m 0 [] at₀ (rest p at₀))) e;
-      }
-
   module _ (s : Store) (at used i : ℕ) (z : NamesGoing p at₀ n s at used i) (lt : i < n) where
     pub name_off : {m q : ℕ} → read_name used z.all at (rest p at) ≡ broke m q → read_names n 0 [] at₀ (rest p at₀) ≡ broke m q
     name_off {m} {q} e =

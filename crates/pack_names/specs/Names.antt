@@ -12,8 +12,9 @@ use Rattle.paper.specs.Tables.Layout.{name_slot_bytes, name_slots, name_slot_siz
 use Rattle.paper.specs.Tables.Lent.{padded}
 use Rattle.field.specs.Cursor.{rest}
 use Rattle.mark.specs.Mark.{mark}
-use Rattle.pack_field.specs.declared.CountRead.{CountRead}
-use Rattle.pack_field.specs.declared.CountRead.TheVariants as count
+use Rattle.std.specs.Prelude.{Err, Ok, Result}
+use Rattle.field.specs.declared.BitCursor.{BitCursor}
+use Rattle.paper.specs.declared.Refusal.{Refusal}
 
 -- what the two tables of names hold, and the marks of the names
 pub record Store : Type 0 where
@@ -52,15 +53,15 @@ pub record NameIn (p : List ℕ) (at width : ℕ) (g : FieldStep (List ℕ)) (ns
   pub size : length name ≡ len
   pub held : Named (ns ++ (name ∷ [])) s (n + 1) (used + len)
 
-abbrev pub NameIs : List ℕ → (at width : ℕ) → FieldStep (List ℕ) → List (List ℕ) → Store → (n used : ℕ) → CountRead → Type 0
-NameIs p at width g ns s n used (count.Read len c) = NameIn p at width g ns s n used len c.at
-NameIs p at width g ns s n used (count.Refused r) = g ≡ broke r.number r.place
+abbrev pub NameIs : List ℕ → (at width : ℕ) → FieldStep (List ℕ) → List (List ℕ) → Store → (n used : ℕ) → Result (ℕ × BitCursor) Refusal → Type 0
+NameIs p at width g ns s n used (Ok (len, c)) = NameIn p at width g ns s n used len c.at
+NameIs p at width g ns s n used (Err r) = g ≡ broke r.number r.place
 
 -- behind whatever names the store holds: the bytes of so many, or a length and its bytes
-abbrev pub TakesName : List ℕ → (at len : ℕ) (s₀ s₁ : Store) (n used : ℕ) → CountRead → Type 0
+abbrev pub TakesName : List ℕ → (at len : ℕ) (s₀ s₁ : Store) (n used : ℕ) → Result (ℕ × BitCursor) Refusal → Type 0
 TakesName p at len s₀ s₁ n used r = (ns : List (List ℕ)) → Named ns s₀ n used → NameIs p at 0 (bytes_field len (name_rule ns) at (rest p at)) ns s₁ n used r
 
-abbrev pub ReadsName : List ℕ → (at : ℕ) (s₀ s₁ : Store) (n used : ℕ) → CountRead → Type 0
+abbrev pub ReadsName : List ℕ → (at : ℕ) (s₀ s₁ : Store) (n used : ℕ) → Result (ℕ × BitCursor) Refusal → Type 0
 ReadsName p at s₀ s₁ n used r = (ns : List (List ℕ)) → Named ns s₀ n used → NameIs p at name_length_width (read_name used ns at (rest p at)) ns s₁ n used r
 
 pub record NamesIn (p : List ℕ) (at : ℕ) (g : FieldStep (List (List ℕ))) (names categories : List ℕ) (n used next : ℕ) : Type 0 where
@@ -69,6 +70,6 @@ pub record NamesIn (p : List ℕ) (at : ℕ) (g : FieldStep (List (List ℕ))) (
   pub reads : g ≡ gave all next (rest p next)
   pub held : Stored all names categories n used
 
-abbrev pub NamesAre : List ℕ → ℕ → FieldStep (List (List ℕ)) → (names categories : List ℕ) → ℕ → CountRead → Type 0
-NamesAre p at g names categories n (count.Read used c) = NamesIn p at g names categories n used c.at
-NamesAre p at g names categories n (count.Refused r) = g ≡ broke r.number r.place
+abbrev pub NamesAre : List ℕ → ℕ → FieldStep (List (List ℕ)) → (names categories : List ℕ) → ℕ → Result (ℕ × BitCursor) Refusal → Type 0
+NamesAre p at g names categories n (Ok (used, c)) = NamesIn p at g names categories n used c.at
+NamesAre p at g names categories n (Err r) = g ≡ broke r.number r.place

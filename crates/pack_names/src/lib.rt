@@ -12,8 +12,7 @@ ghost use Rattle.field.specs.Cursor.{rest};
 ghost use Rattle.pack_field.specs.Parts.{max_place};
 ghost use Rattle.pack_names.specs.Names.{Stored, Naming, KeptIs, TakesName, ReadsName, NamesAre};
 
-use field::{BitCursor, Field, NAME_LENGTH_WIDTH, Run};
-use pack_field::CountRead;
+use field::{BitCursor, NAME_LENGTH_WIDTH};
 use paper::{MAX_CATEGORIES, MAX_NAME_BYTES, PACK_RULE, Refusal};
 use table::{CATEGORY_BYTES, NAME_LENGTH_AT};
 
@@ -33,8 +32,7 @@ fn place_name(
     let at = CATEGORY_BYTES * i;
     table::put_u16(categories, at, start as u16);
     table::put_u16(categories, at + NAME_LENGTH_AT, len as u16);
-    let end = start + len;
-    marks[i] = mark::mark_of(&names[start..end]);
+    marks[i] = mark::mark_of(&names[start..start + len]);
 }
 
 // The last of the names is well-formed UTF-8 and none of those before it.
@@ -49,11 +47,8 @@ fn name_kept<'a>(
     requires { Naming (record { names = names.now; categories = categories.now; marks = marks.now }) (i + 1) (start + len) }
     ensures { KeptIs (record { names = names.now; categories = categories.now; marks = marks.now }) i start len result }
 {
-    let end = start + len;
-    if !name_rules::is_formed(&names[start..end]) {
-        return false;
-    }
-    name_rules::is_new(names, categories, marks, i)
+    name_rules::is_formed(&names[start..start + len])
+        && name_rules::is_new(names, categories, marks, i)
 }
 
 // A name's bytes, one field, into the store behind the others.
@@ -66,25 +61,21 @@ fn take_name<'a>(
     marks: &'a mut [u32],
     i: usize,
     used: usize,
-) -> CountRead
+) -> Result<(usize, BitCursor), Refusal>
     requires len_bound { from.at + byte_width * len ≤ max_place }
     requires i_lt_max_categories { (i < max_categories) × ((1 ≤ len) × (used + len ≤ max_name_bytes)) }
     requires naming { Naming (record { names = names.old; categories = categories.old; marks = marks.old }) i used }
     ensures { TakesName pack.now from.at len (record { names = names.old; categories = categories.old; marks = marks.old }) (record { names = names.new; categories = categories.new; marks = marks.new }) i used result }
 {
-    match from.bytes(pack, len, names, used) {
-        Run::Refused(r) => CountRead::Refused(r),
-        Run::Copied(next) => {
-            place_name(names, categories, marks, i, used, len);
-            if !name_kept(names, categories, marks, i, used, len) {
-                return CountRead::Refused(Refusal {
-                    number: PACK_RULE,
-                    place: from.at,
-                });
-            }
-            CountRead::Read(len, next)
-        }
+    let next = from.bytes(pack, len, names, used)?;
+    place_name(names, categories, marks, i, used, len);
+    if !name_kept(names, categories, marks, i, used, len) {
+        return Err(Refusal {
+            number: PACK_RULE,
+            place: from.at,
+        });
     }
+    Ok((len, next))
 }
 
 // A name behind the others: its length, at least 1 and within the bytes that are left, then its bytes.
@@ -96,31 +87,21 @@ fn read_name<'a>(
     marks: &'a mut [u32],
     i: usize,
     used: usize,
-) -> CountRead
+) -> Result<(usize, BitCursor), Refusal>
     requires used_bound { from.at + name_length_width + byte_width * (max_name_bytes - used) ≤ max_place }
     requires i_lt_max_categories { (i < max_categories) × (used ≤ max_name_bytes) }
     requires naming { Naming (record { names = names.old; categories = categories.old; marks = marks.old }) i used }
     ensures { ReadsName pack.now from.at (record { names = names.old; categories = categories.old; marks = marks.old }) (record { names = names.new; categories = categories.new; marks = marks.new }) i used result }
 {
-    match from.field(pack, NAME_LENGTH_WIDTH) {
-        Field::Refused(r) => CountRead::Refused(r),
-        Field::Value(v, next) => {
-            let len = v as usize;
-            if len == 0 {
-                return CountRead::Refused(Refusal {
-                    number: PACK_RULE,
-                    place: from.at,
-                });
-            }
-            if MAX_NAME_BYTES - used < len {
-                return CountRead::Refused(Refusal {
-                    number: PACK_RULE,
-                    place: from.at,
-                });
-            }
-            take_name(pack, next, len, names, categories, marks, i, used)
-        }
+    let (v, next) = from.field(pack, NAME_LENGTH_WIDTH)?;
+    let len = v as usize;
+    if len == 0 || MAX_NAME_BYTES - used < len {
+        return Err(Refusal {
+            number: PACK_RULE,
+            place: from.at,
+        });
     }
+    take_name(pack, next, len, names, categories, marks, i, used)
 }
 
 // So many names, into their two tables; how many bytes they have. A name is compared with those before it by a mark of its bytes first.
@@ -130,33 +111,19 @@ pub fn read_names(
     n: usize,
     names: &mut [u8],
     categories: &mut [u8],
-) -> CountRead
+) -> Result<(usize, BitCursor), Refusal>
     requires max_name_bytes_bound { from.at + name_length_width * n + byte_width * max_name_bytes ≤ max_place }
     requires n_le_max_categories { n ≤ max_categories }
     requires stored { Stored [] names.old categories.old 0 0 }
     ensures { NamesAre pack.now from.at (read_names n 0 [] from.at (rest pack.now from.at)) names.new categories.new n result }
 {
     let mut marks = [0u32; MAX_CATEGORIES];
-    let mut at = from.at;
+    let mut at = from;
     let mut used = 0;
-    let mut i = 0;
-    while i < n {
-        match read_name(
-            pack,
-            BitCursor { at },
-            names,
-            categories,
-            &mut marks,
-            i,
-            used,
-        ) {
-            CountRead::Refused(r) => return CountRead::Refused(r),
-            CountRead::Read(len, next) => {
-                at = next.at;
-                used += len;
-                i += 1;
-            }
-        }
+    for i in 0..n {
+        let (len, next) = read_name(pack, at, names, categories, &mut marks, i, used)?;
+        at = next;
+        used += len;
     }
-    CountRead::Read(used, BitCursor { at })
+    Ok((used, at))
 }

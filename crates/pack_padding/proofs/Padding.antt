@@ -12,7 +12,11 @@ use Rattle.paper.specs.Lists.{all}
 use Rattle.paper.specs.Pack.Fields.{byte_width, bits_of}
 use Rattle.paper.specs.Computed.ReadPack.{take_number, taken, gave, broke, is_padding}
 use Rattle.paper.proofs.Apart.{broke_gave, short_taken}
-use Rattle.field.specs.Cursor.{rest, field_at}
+use Rattle.std.specs.Prelude.{Err, Ok, Result}
+use Rattle.std.specs.Result.{MatchResult}
+use Rattle.paper.specs.declared.Refusal.{Refusal}
+use Rattle.field.specs.declared.BitCursor.{BitCursor}
+use Rattle.field.specs.Cursor.{rest, said, field_at}
 use Rattle.field.proofs.Bridge.{unpack_size, field_there}
 use Rattle.field.proofs.Promise.{field_took, field_on}
 use Rattle.pack_field.specs.Parts.{max_place}
@@ -66,11 +70,11 @@ module _ (p : List ℕ) (at : ℕ) where
   bytes_over h = let z = rest_size in too_many (omega arith)
 
   module _ (near : at ≤ max_place) (some : 0 < at % 8) (here : at / 8 < length p) (last : length p ≤ at / 8 + 1) where
-    pub never_cut : {n q : ℕ} → broke n q ≡ field_at p at (8 - at % 8) → false ≡ is_padding (rest p at)
+    never_cut : {n q : ℕ} → broke n q ≡ field_at p at (8 - at % 8) → false ≡ is_padding (rest p at)
     never_cut e =
         broke_gave (e ∙ sym (field_there p at (8 - at % 8) _ (omega arith) (omega arith) (record { inside = omega arith; counted = omega arith }) refl))
 
-    pub last_bits : {v to : ℕ} → gave v to (rest p to) ≡ field_at p at (8 - at % 8) → eqb v 0 ≡ is_padding (rest p at)
+    last_bits : {v to : ℕ} → gave v to (rest p to) ≡ field_at p at (8 - at % 8) → eqb v 0 ≡ is_padding (rest p at)
     unfolding rest
     last_bits {v} {to} e =
         let z = rest_size in
@@ -80,3 +84,9 @@ module _ (p : List ℕ) (at : ℕ) where
         let none : rest p to ≡ [] = (let l : length (bits_of p) ≤ to = omega arith in drop_of_length-le (bits_of p) l) in
         let took : take_number (8 - at % 8) 0 (rest p at) ≡ taken v [] = field_took p at (8 - at % 8) v to (rest p to) e ∙ ap (taken v) none in
         eqb_sym v ∙ zero_bits (8 - at % 8) 0 (rest p at) v took ∙ sym (ap (λ b. b && all (eqb 0) (rest p at)) (lt-ltb (length (rest p at)) byte_width few))
+
+    -- the test in the code: a field that was read is 0
+    pub last_or_cut : (b : Bool) (r : Result (ℕ × BitCursor) Refusal) → said p r ≡ field_at p at (8 - at % 8)
+        → MatchResult r (λ x. b ≡ eqb x.0 0) (λ _. b ≡ false) → b ≡ is_padding (rest p at)
+    last_or_cut b (Ok (v, c)) e h = h ∙ last_bits e
+    last_or_cut b (Err r) e h = h ∙ never_cut e

@@ -6,7 +6,7 @@ ghost use Rattle.paper.specs.Computed.ReadPack.{is_padding};
 ghost use Rattle.field.specs.Cursor.{rest};
 ghost use Rattle.pack_field.specs.Parts.{max_place};
 
-use field::{BYTE_WIDTH, BitCursor, Field};
+use field::{BYTE_WIDTH, BitCursor};
 
 // Zero bits fill the last byte, and nothing stands behind them.
 pub fn is_padding(pack: &[u8], from: BitCursor) -> bool
@@ -18,14 +18,9 @@ pub fn is_padding(pack: &[u8], from: BitCursor) -> bool
     if pack.len() <= whole {
         return true;
     }
-    if over == 0 {
+    if over == 0 || whole + 1 < pack.len() {
         return false;
     }
-    if whole + 1 < pack.len() {
-        return false;
-    }
-    match from.field(pack, BYTE_WIDTH - over) {
-        Field::Refused(_) => false,
-        Field::Value(v, _) => v == 0,
-    }
+    from.field(pack, BYTE_WIDTH - over)
+        .is_ok_and(|(v, _)| v == 0)
 }

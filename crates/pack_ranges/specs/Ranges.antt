@@ -13,10 +13,9 @@ use Rattle.paper.specs.Tables.Layout.{slot_bytes, range_table, reference_table, 
 use Rattle.paper.specs.Tables.Lent.{patch, padded}
 use Rattle.field.specs.Cursor.{rest}
 use Rattle.pack_ranges.specs.declared.Bounds.{Bounds}
-use Rattle.pack_ranges.specs.declared.BoundsRead.{BoundsRead}
-use Rattle.pack_ranges.specs.declared.BoundsRead.TheVariants as bounds
-use Rattle.pack_field.specs.declared.CountRead.{CountRead}
-use Rattle.pack_field.specs.declared.CountRead.TheVariants as count
+use Rattle.std.specs.Prelude.{Err, Ok, Result}
+use Rattle.field.specs.declared.BitCursor.{BitCursor}
+use Rattle.paper.specs.declared.Refusal.{Refusal}
 
 abbrev pub with_bounds : ℕ → ℕ → List ℕ → Range
 with_bounds lower upper cs = record { lower = lower; upper = upper; categories = cs }
@@ -27,9 +26,9 @@ pub record BoundsIn (p : List ℕ) (at known total used : ℕ) (g : FieldStep Ra
   pub on : next ≡ at + range_width
   pub reads : g ≡ after_step (many h.count (number number_width (λ c. ltb c known)) next (rest p next)) (λ cs. give (with_bounds h.lower h.upper cs))
 
-abbrev pub BoundsAre : List ℕ → (at known total used : ℕ) → FieldStep Range → BoundsRead → Type 0
-BoundsAre p at known total used g (bounds.Read h c) = BoundsIn p at known total used g h c.at
-BoundsAre p at known total used g (bounds.Refused r) = g ≡ broke r.number r.place
+abbrev pub BoundsAre : List ℕ → (at known total used : ℕ) → FieldStep Range → Result (Bounds × BitCursor) Refusal → Type 0
+BoundsAre p at known total used g (Ok (h, c)) = BoundsIn p at known total used g h c.at
+BoundsAre p at known total used g (Err r) = g ≡ broke r.number r.place
 
 -- what two tables hold
 pub record Two : Type 0 where
@@ -46,9 +45,9 @@ pub record RangeIn (p : List ℕ) (at : ℕ) (g : FieldStep Range) (total n used
   pub in_ranges : t₁.ranges ≡ patch (range_slot_size * n) (slot_bytes (record { lower = range.lower; upper = range.upper; first = used; count = count })) t₀.ranges
   pub in_references : t₁.references ≡ patch (reference_size * used) (joined (map (le reference_size) range.categories)) t₀.references
 
-abbrev pub RangeIs : List ℕ → ℕ → FieldStep Range → (total n used : ℕ) → (t₀ t₁ : Two) → CountRead → Type 0
-RangeIs p at g total n used t₀ t₁ (count.Read k c) = RangeIn p at g total n used t₀ t₁ k c.at
-RangeIs p at g total n used t₀ t₁ (count.Refused r) = g ≡ broke r.number r.place
+abbrev pub RangeIs : List ℕ → ℕ → FieldStep Range → (total n used : ℕ) → (t₀ t₁ : Two) → Result (ℕ × BitCursor) Refusal → Type 0
+RangeIs p at g total n used t₀ t₁ (Ok (k, c)) = RangeIn p at g total n used t₀ t₁ k c.at
+RangeIs p at g total n used t₀ t₁ (Err r) = g ≡ broke r.number r.place
 
 -- the two tables hold these ranges, and zero after them
 pub record Ranged (gs : List Range) (t : Two) : Type 0 where
@@ -64,6 +63,6 @@ pub record RangesIn (p : List ℕ) (at : ℕ) (g : FieldStep (List Range)) (tota
   pub sum : references all ≡ used
   pub held : Ranged all t
 
-abbrev pub RangesAre : List ℕ → ℕ → FieldStep (List Range) → (total n : ℕ) → Two → CountRead → Type 0
-RangesAre p at g total n t (count.Read used c) = RangesIn p at g total n t used c.at
-RangesAre p at g total n t (count.Refused r) = g ≡ broke r.number r.place
+abbrev pub RangesAre : List ℕ → ℕ → FieldStep (List Range) → (total n : ℕ) → Two → Result (ℕ × BitCursor) Refusal → Type 0
+RangesAre p at g total n t (Ok (used, c)) = RangesIn p at g total n t used c.at
+RangesAre p at g total n t (Err r) = g ≡ broke r.number r.place

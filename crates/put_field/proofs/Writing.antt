@@ -14,7 +14,7 @@ use Rattle.paper.specs.Pack.Fields.{byte_width, Field, field, bits, spell, bits_
 use Rattle.paper.proofs.Lists.Facts.{all_append, joined_map}
 use Rattle.paper.proofs.Pack.Bits.{spell_append}
 use Rattle.put_field.specs.declared.BitWriter.{BitWriter}
-use Rattle.put_field.specs.Writer.{place, waiting_bits, Room, Writes, Puts}
+use Rattle.put_field.specs.Writer.{waiting_bits, Room, Writes, Puts}
 use Rattle.put_field.proofs.Bits.{bits_split, bits_mod, bits_behind}
 
 abbrev pub writer : ℕ → ℕ → ℕ → BitWriter

@@ -10,17 +10,11 @@ use field::BYTE_WIDTH;
 const BYTES: u64 = 256;
 
 // Where a writer stands: `at` whole bytes are in memory, and the low `waiting` bits of `held` wait for the byte behind them to be whole.
-#[derive(Drop)]
+#[derive(Clone, Copy)]
 pub struct BitWriter {
     pub at: usize,
     pub waiting: usize,
     pub held: u8,
-}
-
-fn wide(x: u8) -> u64
-    ensures { result ≡ x }
-{
-    x as u64
 }
 
 impl BitWriter {
@@ -30,22 +24,20 @@ impl BitWriter {
         requires room { Room out.old self width }
         ensures { Puts out.old self (field width value ∷ []) width out.new result }
     {
-        let one: u64 = 1;
-        let low = value & ((one << width) - 1);
-        let kept = wide(self.held);
-        let held = (kept << width) | low;
+        let low = value & ((1u64 << width) - 1);
+        let held = (u64::from(self.held) << width) | low;
         let mut at = self.at;
         let mut left = self.waiting + width;
+        // A `while`: it goes by the bits that are left, and counts no index.
         while BYTE_WIDTH <= left {
             left -= BYTE_WIDTH;
             out[at] = ((held >> left) % BYTES) as u8;
             at += 1;
         }
-        let rest = (held % BYTES) as u8;
         BitWriter {
             at,
             waiting: left,
-            held: rest,
+            held: (held % BYTES) as u8,
         }
     }
 }
@@ -57,10 +49,8 @@ pub fn put_bytes(from: BitWriter, out: &mut [u8], names: &[u8], first: usize, n:
     ensures { Puts out.old from (map (field byte_width) (take n (drop first names.now))) (byte_width * n) out.new result }
 {
     let mut w = from;
-    let mut i = 0;
-    while i < n {
-        w = w.put(out, BYTE_WIDTH, wide(names[first + i]));
-        i += 1;
+    for b in &names[first..first + n] {
+        w = w.put(out, BYTE_WIDTH, u64::from(*b));
     }
     w
 }

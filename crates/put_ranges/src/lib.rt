@@ -17,9 +17,9 @@ fn put_bounds(from: BitWriter, out: &mut [u8], lower: u16, upper: u16, count: u1
     requires { Room out.old from range_width }
     ensures { Puts out.old from (field bound_width lower ∷ field bound_width upper ∷ field count_width count ∷ []) range_width out.new result }
 {
-    let second = from.put(out, BOUND_WIDTH, lower as u64);
-    let third = second.put(out, BOUND_WIDTH, upper as u64);
-    third.put(out, COUNT_WIDTH, count as u64)
+    let second = from.put(out, BOUND_WIDTH, u64::from(lower));
+    let third = second.put(out, BOUND_WIDTH, u64::from(upper));
+    third.put(out, COUNT_WIDTH, u64::from(count))
 }
 
 // n references from a place on: "9 bits for each category number".
@@ -35,11 +35,9 @@ fn put_references(
     ensures { Puts out.old from (map (field number_width) (numbers_from first n references.now)) (number_width * n) out.new result }
 {
     let mut w = from;
-    let mut i = 0;
-    while i < n {
-        let number = table::get_u16(references, REFERENCE_BYTES * (first + i)) as u64;
-        w = w.put(out, NUMBER_WIDTH, number);
-        i += 1;
+    for i in 0..n {
+        let number = table::get_u16(references, REFERENCE_BYTES * (first + i));
+        w = w.put(out, NUMBER_WIDTH, u64::from(number));
     }
     w
 }
@@ -59,16 +57,14 @@ pub fn put_ranges(
 {
     let mut w = from;
     let mut used = 0;
-    let mut i = 0;
-    while i < n {
+    for i in 0..n {
         let at = RANGE_BYTES * i;
         let lower = table::get_u16(ranges, at);
         let upper = table::get_u16(ranges, at + UPPER_AT);
         let count = table::get_u16(ranges, at + COUNT_AT);
         let behind = put_bounds(w, out, lower, upper, count);
-        w = put_references(behind, out, references, used, count as usize);
-        used += count as usize;
-        i += 1;
+        w = put_references(behind, out, references, used, usize::from(count));
+        used += usize::from(count);
     }
     w
 }

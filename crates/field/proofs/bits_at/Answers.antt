@@ -2,11 +2,8 @@
 use native.Mathlib.Omega.{arith}
 use mathlib.Core.Path.{ap, sym, ◌∙◌}
 use Prim.Native.Nat.{ℕ, ◌-◌, ◌/◌, ◌%◌, ◌^◌}
-use Rattle.field.proofs.Window.{window, mask_is, masked, masked_lt}
+use Rattle.field.proofs.Window.{window, masked, masked_lt}
 use Rattle.field.proofs.bits_at.Goals as goal
-
-pub overflow_sub-v : goal.overflow_sub-v
-overflow_sub-v c = mask_is _ (omega arith)
 
 pub overflow_cast-result : goal.overflow_cast-result
 overflow_cast-result c =
@@ -18,4 +15,4 @@ returns c =
     let a = c.args in
     masked _ _ (omega arith)
     ∙ ap (λ (x : ℕ). x / 2 ^ (40 - a.at % 8 - a.width) % 2 ^ a.width) c.five-all.ensures
-    ∙ sym (window a.pack.now a.at 5 a.width (λ k. omega (arith, c.shared_slice_known-1.given k)) (omega arith))
+    ∙ sym (window a.pack.now a.at 5 a.width (λ k. (c.type_inv.pack k).fits) (omega arith))

