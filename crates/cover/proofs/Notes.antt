@@ -7,7 +7,7 @@ use mathlib.Core.Bool.{Bool, true, false, cond}
 use mathlib.Core.List.{List, [], ◌∷◌, ◌++◌}
 use lib.Dec.{ltb, eqb}
 use lib.ListN.{length, get_or, set, length-set, length-append}
-use lib.Seq.{sets, length-sets}
+use lib.Seq.{sets}
 use borrow.Author.Tests.{eq-eqb, ltb-true}
 use Rattle.paper.specs.Tables.Lent.{got}
 use Rattle.paper.specs.Rows.Covering.{or_else}
@@ -15,9 +15,8 @@ use Rattle.paper.proofs.Apart.{true_false}
 use Rattle.cover.specs.Slots.{slot_got, slots_got, numbers_got, slot_holds, covers_got}
 use Rattle.cover.specs.Stamps.{is_seen, stamped, stamps, Noted, Rowed}
 use Rattle.cover.specs.Fallback.{fallback_row}
-use Rattle.cover.specs.declared.Fallback.{Fallback}
-use Rattle.cover.specs.declared.Fallback.TheVariants.{Category, Nothing}
 use Rattle.cover.proofs.Turn.{slots_none, slots_more, numbers_none, numbers_more}
+use Rattle.std.specs.Prelude.{None, Option, Some}
 
 -- ---- one step, and parts one after another
 
@@ -127,17 +126,12 @@ stamped_short s seen l = let h = stamped_marks s seen l in omega arith
 -- ---- what is left
 
 pub record Left (s : ℕ) (all seen₀ out₀ : List ℕ) (at : ℕ) (rest seen out : List ℕ) (to : ℕ) : Type 0 where
-  pub long_seen : length seen ≡ length seen₀
-  pub long_out : length out ≡ length out₀
   pub short : to ≤ at + length seen₀
   pub stamps_left : stamps s seen rest ≡ stamps s seen₀ all
   pub out_left : sets out to (stamped s seen rest) ≡ sets out₀ at (stamped s seen₀ all)
   pub count_left : to + length (stamped s seen rest) ≡ at + length (stamped s seen₀ all)
 
 module _ (s : ℕ) (all seen₀ out₀ : List ℕ) (at : ℕ) where
-  pub left_start : Left s all seen₀ out₀ at all seen₀ out₀ at
-  left_start = record { long_seen = refl; long_out = refl; short = omega arith; stamps_left = refl; out_left = refl; count_left = refl }
-
   pub left_same : (rest rest' seen out : List ℕ) (to : ℕ) → rest ≡ rest' → Left s all seen₀ out₀ at rest seen out to → Left s all seen₀ out₀ at rest' seen out to
   left_same rest rest' seen out to e h = subst (λ r. Left s all seen₀ out₀ at r seen out to) e h
 
@@ -154,8 +148,6 @@ module _ (s : ℕ) (all seen₀ out₀ : List ℕ) (at : ℕ) where
       let lb : length (stamped s seen' rest) ≡ length (stamped s (stamps s seen p) rest) = ap (λ z. length (stamped s z rest)) es in
       let short : length (stamped s seen₀ all) ≤ length seen₀ = stamped_short s seen₀ all in
       record {
-        long_seen = ap length es ∙ length_stamps s seen p ∙ h.long_seen;
-        long_out = ap length eo ∙ length-sets out to (stamped s seen p) ∙ h.long_out;
         short = omega arith;
         stamps_left = ap (λ z. stamps s z rest) es ∙ sym (stamps_append s seen p rest) ∙ h.stamps_left;
         out_left =
@@ -193,51 +185,22 @@ one_new s x seen out to e =
 
 -- ---- the turns of `note`
 
-pub record Noting (s : ℕ) (l seen₀ out₀ : List ℕ) (at first count end : ℕ) (seen out : List ℕ) (i to : ℕ) : Type 0 where
-  pub ends : end ≡ first + count
-  pub upto : i ≤ end
-  pub left : Left s (numbers_got first count l) seen₀ out₀ at (numbers_got i (end - i) l) seen out to
+module _ (s : ℕ) (l seen₀ out₀ all : List ℕ) (at end : ℕ) where
+  module _ (seen out : List ℕ) (i to x : ℕ) (h : Left s all seen₀ out₀ at (numbers_got i (end - i) l) seen out to) (lt : i < end) (ex : x ≡ got 2 (2 * i) l) where
+    opened : Left s all seen₀ out₀ at ((x ∷ []) ++ numbers_got (i + 1) (end - (i + 1)) l) seen out to
+    opened = left_same s all seen₀ out₀ at _ _ seen out to (numbers_more i end l lt ∙ ap (λ y. y ∷ numbers_got (i + 1) (end - (i + 1)) l) (sym ex)) h
 
-module _ (s : ℕ) (l seen₀ out₀ : List ℕ) (at first count end : ℕ) where
-  pub noting_start : (i : ℕ) → end ≡ i + count → i ≡ first → Noting s l seen₀ out₀ at first count end seen₀ out₀ i at
-  noting_start i e f =
-      let k : end - i ≡ count = omega arith in
-      let m : numbers_got first count l ≡ numbers_got i (end - i) l = ap₂ (λ a b. numbers_got a b l) (sym f) (sym k) in
-      record {
-        ends = omega arith;
-        upto = omega arith;
-        left = left_same s (numbers_got first count l) seen₀ out₀ at _ _ seen₀ out₀ at m (left_start s (numbers_got first count l) seen₀ out₀ at);
-      }
-
-  module _ (seen out : List ℕ) (i to x : ℕ) (h : Noting s l seen₀ out₀ at first count end seen out i to) (lt : i < end) (ex : x ≡ got 2 (2 * i) l) where
-    opened : Left s (numbers_got first count l) seen₀ out₀ at ((x ∷ []) ++ numbers_got (i + 1) (end - (i + 1)) l) seen out to
-    opened =
-        left_same s (numbers_got first count l) seen₀ out₀ at _ _ seen out to
-        (numbers_more i end l lt ∙ ap (λ y. y ∷ numbers_got (i + 1) (end - (i + 1)) l) (sym ex)) h.left
-
-    pub noting_seen : (b : Bool) → b ≡ is_seen s seen x → b ≡ true → Noting s l seen₀ out₀ at first count end seen out (i + 1) to
-    noting_seen b e t =
-        record {
-          ends = h.ends;
-          upto = omega arith;
-          left = left_part s (numbers_got first count l) seen₀ out₀ at (x ∷ []) _ seen seen out out to to opened (one_seen s x seen out to (sym e ∙ t));
-        }
+    pub noting_seen : (b : Bool) → b ≡ is_seen s seen x → b ≡ true → Left s all seen₀ out₀ at (numbers_got (i + 1) (end - (i + 1)) l) seen out to
+    noting_seen b e t = left_part s all seen₀ out₀ at (x ∷ []) _ seen seen out out to to opened (one_seen s x seen out to (sym e ∙ t))
 
     pub noting_new : (b : Bool) (seen' out' : List ℕ) → b ≡ is_seen s seen x → b ≡ false → seen' ≡ set seen x s → out' ≡ set out to x
-        → Noting s l seen₀ out₀ at first count end seen' out' (i + 1) (to + 1)
+        → Left s all seen₀ out₀ at (numbers_got (i + 1) (end - (i + 1)) l) seen' out' (to + 1)
     noting_new b seen' out' e t p q =
-        rw (p, q)
-        (record {
-          ends = h.ends;
-          upto = omega arith;
-          left =
-              left_part s (numbers_got first count l) seen₀ out₀ at (x ∷ []) _ seen (set seen x s) out (set out to x) to (to + 1) opened
-              (one_new s x seen out to (sym e ∙ t));
-        })
+        rw (p, q) (left_part s all seen₀ out₀ at (x ∷ []) _ seen (set seen x s) out (set out to x) to (to + 1) opened (one_new s x seen out to (sym e ∙ t)))
 
-  pub noting_done : (seen out : List ℕ) (i to : ℕ) → Noting s l seen₀ out₀ at first count end seen out i to → end ≤ i
-      → Noted s (numbers_got first count l) seen₀ seen out₀ out at to
-  noting_done seen out i to h g = left_done s (numbers_got first count l) seen₀ out₀ at _ seen out to (numbers_none i end l g) h.left
+  pub noting_done : (seen out : List ℕ) (i to : ℕ) → Left s all seen₀ out₀ at (numbers_got i (end - i) l) seen out to → end ≤ i
+      → Noted s all seen₀ seen out₀ out at to
+  noting_done seen out i to h g = left_done s all seen₀ out₀ at _ seen out to (numbers_none i end l g) h
 
 -- ---- the turns of `named`
 
@@ -245,49 +208,35 @@ nothing : (c : ℕ) (l : List ℕ) → covers_got c [] l ≡ []
 unfolding covers_got
 nothing c l = refl
 
-pub record Naming (s c n : ℕ) (rs l seen₀ out₀ : List ℕ) (at : ℕ) (seen out : List ℕ) (i to : ℕ) : Type 0 where
-  pub upto : i ≤ n
-  pub left : Left s (covers_got c (slots_got 0 n rs) l) seen₀ out₀ at (covers_got c (slots_got i (n - i) rs) l) seen out to
-
-module _ (s c n : ℕ) (rs l seen₀ out₀ : List ℕ) (at : ℕ) where
-  pub naming_start : Naming s c n rs l seen₀ out₀ at seen₀ out₀ 0 at
-  naming_start =
-      let e : n ≡ n - 0 = omega arith in
-      record {
-        upto = omega arith;
-        left =
-            left_same s (covers_got c (slots_got 0 n rs) l) seen₀ out₀ at _ _ seen₀ out₀ at (ap (λ k. covers_got c (slots_got 0 k rs) l) e)
-            (left_start s (covers_got c (slots_got 0 n rs) l) seen₀ out₀ at);
-      }
-
-  module _ (seen out : List ℕ) (i to : ℕ) (h : Naming s c n rs l seen₀ out₀ at seen out i to) (lt : i < n) (b : Bool) (eb : b ≡ slot_holds c (slot_got i rs)) where
+module _ (s c n : ℕ) (rs l seen₀ out₀ all : List ℕ) (at : ℕ) where
+  module _ (seen out : List ℕ) (i to : ℕ) (h : Left s all seen₀ out₀ at (covers_got c (slots_got i (n - i) rs) l) seen out to) (lt : i < n)
+      (b : Bool) (eb : b ≡ slot_holds c (slot_got i rs)) where
     next_covers : covers_got c (slot_got i rs ∷ slots_got (i + 1) (n - (i + 1)) rs) l
         ≡ cond (slot_holds c (slot_got i rs)) (numbers_got (slot_got i rs).first (slot_got i rs).count l) [] ++ covers_got c (slots_got (i + 1) (n - (i + 1)) rs) l
     unfolding covers_got
     next_covers = refl
 
-    pub naming_out : b ≡ false → Naming s c n rs l seen₀ out₀ at seen out (i + 1) to
+    pub naming_out : b ≡ false → Left s all seen₀ out₀ at (covers_got c (slots_got (i + 1) (n - (i + 1)) rs) l) seen out to
     naming_out t =
         let e : covers_got c (slots_got i (n - i) rs) l ≡ covers_got c (slots_got (i + 1) (n - (i + 1)) rs) l =
         ap (λ k. covers_got c k l) (slots_more i n rs lt) ∙ next_covers
         ∙ ap (λ z. cond z (numbers_got (slot_got i rs).first (slot_got i rs).count l) [] ++ covers_got c (slots_got (i + 1) (n - (i + 1)) rs) l) (sym eb ∙ t) in
-        record { upto = omega arith; left = left_same s (covers_got c (slots_got 0 n rs) l) seen₀ out₀ at _ _ seen out to e h.left }
+        left_same s all seen₀ out₀ at _ _ seen out to e h
 
     pub naming_in : (seen' out' : List ℕ) (to' first count : ℕ) → b ≡ true → first ≡ got 2 (8 * i + 4) rs → count ≡ got 2 (8 * i + 6) rs
-        → Noted s (numbers_got first count l) seen seen' out out' to to' → Naming s c n rs l seen₀ out₀ at seen' out' (i + 1) to'
+        → Noted s (numbers_got first count l) seen seen' out out' to to' → Left s all seen₀ out₀ at (covers_got c (slots_got (i + 1) (n - (i + 1)) rs) l) seen' out' to'
     unfolding slot_got
     naming_in seen' out' to' first count t ef ec m =
         let e : covers_got c (slots_got i (n - i) rs) l ≡ numbers_got first count l ++ covers_got c (slots_got (i + 1) (n - (i + 1)) rs) l =
         ap (λ k. covers_got c k l) (slots_more i n rs lt) ∙ next_covers
         ∙ ap (λ z. cond z (numbers_got (slot_got i rs).first (slot_got i rs).count l) [] ++ covers_got c (slots_got (i + 1) (n - (i + 1)) rs) l) (sym eb ∙ t)
         ∙ ap₂ (λ x y. numbers_got x y l ++ covers_got c (slots_got (i + 1) (n - (i + 1)) rs) l) (sym ef) (sym ec) in
-        let k = left_same s (covers_got c (slots_got 0 n rs) l) seen₀ out₀ at _ _ seen out to e h.left in
-        record { upto = omega arith; left = left_part s (covers_got c (slots_got 0 n rs) l) seen₀ out₀ at _ _ seen seen' out out' to to' k m }
+        let k = left_same s all seen₀ out₀ at _ _ seen out to e h in
+        left_part s all seen₀ out₀ at _ _ seen seen' out out' to to' k m
 
-  pub naming_done : (seen out : List ℕ) (i to : ℕ) → Naming s c n rs l seen₀ out₀ at seen out i to → n ≤ i
-      → Noted s (covers_got c (slots_got 0 n rs) l) seen₀ seen out₀ out at to
-  naming_done seen out i to h g =
-      left_done s (covers_got c (slots_got 0 n rs) l) seen₀ out₀ at _ seen out to (ap (λ k. covers_got c k l) (slots_none i n rs g) ∙ nothing c l) h.left
+  pub naming_done : (seen out : List ℕ) (i to : ℕ) → Left s all seen₀ out₀ at (covers_got c (slots_got i (n - i) rs) l) seen out to → n ≤ i
+      → Noted s all seen₀ seen out₀ out at to
+  naming_done seen out i to h g = left_done s all seen₀ out₀ at _ seen out to (ap (λ k. covers_got c k l) (slots_none i n rs g) ∙ nothing c l) h
 
 -- ---- how a row ends
 module _ (s : ℕ) (l seen₀ seen out₀ out : List ℕ) (at to : ℕ) (h : Noted s l seen₀ seen out₀ out at to) where
@@ -316,7 +265,7 @@ module _ (s : ℕ) (l seen₀ seen out₀ out : List ℕ) (at to : ℕ) (h : Not
   as_it_was : to ≤ at → out ≡ out₀
   as_it_was g = h.out ∙ ap (sets out₀ at) (nothing_named g)
 
-  pub rowed_fallback : (d : Fallback) (number : ℕ) (out' : List ℕ) → to ≤ at → d ≡ Category number → out' ≡ set out at number
+  pub rowed_fallback : (d : Option ℕ) (number : ℕ) (out' : List ℕ) → to ≤ at → d ≡ Some number → out' ≡ set out at number
       → Rowed s l (fallback_row d) seen₀ seen out₀ out' at (at + 1)
   rowed_fallback d number out' g k p =
       let e : or_else (stamped s seen₀ l) (fallback_row d) ≡ number ∷ [] = ap₂ (λ x y. or_else x (fallback_row y)) (nothing_named g) k in
@@ -326,7 +275,7 @@ module _ (s : ℕ) (l seen₀ seen out₀ out : List ℕ) (at to : ℕ) (h : Not
         count = ap (λ z. at + length z) (sym e);
       }
 
-  pub rowed_none : (d : Fallback) → to ≤ at → d ≡ Nothing → Rowed s l (fallback_row d) seen₀ seen out₀ out at at
+  pub rowed_none : (d : Option ℕ) → to ≤ at → d ≡ None → Rowed s l (fallback_row d) seen₀ seen out₀ out at at
   rowed_none d g k =
       let e : or_else (stamped s seen₀ l) (fallback_row d) ≡ [] = ap₂ (λ x y. or_else x (fallback_row y)) (nothing_named g) k in
       let z : at ≡ at + 0 = omega arith in

@@ -10,45 +10,21 @@ ghost use Rattle.cover.specs.Fallback.{fallback_row};
 
 use table::{COUNT_AT, FIRST_AT, RANGE_BYTES, REFERENCE_BYTES, UPPER_AT};
 
-// What a row has where its ranges name no category: DEFAULT's number if it is interned.
-#[derive(Clone, Copy)]
-pub enum Fallback {
-    Category(u16),
-    Nothing,
-}
-
-// A bound as a number to reckon with: the call asks only that it has 16 bits.
-fn wide(x: u16) -> u32
-    ensures { (result ≡ x) × (result < 65536) }
-{
-    x as u32
-}
-
 // Range i holds c, "its bounds and what is between them".
+#[tactic(auto, unfolding(crate::specs::Slots::slot_got))]
 fn holds(ranges: &[u8], i: usize, c: u32) -> bool
     requires { i ≤ max_ranges }
     ensures { result ≡ slot_holds c (slot_got i ranges.now) }
 {
-    if c < wide(table::get_u16(ranges, RANGE_BYTES * i)) {
-        return false;
-    }
-    if wide(table::get_u16(ranges, RANGE_BYTES * i + UPPER_AT)) < c {
-        return false;
-    }
-    true
+    u32::from(table::get_u16(ranges, RANGE_BYTES * i)) <= c
+        && c <= u32::from(table::get_u16(ranges, RANGE_BYTES * i + UPPER_AT))
 }
 
 // The category was seen in this row; one that has no place counts as seen.
 fn is_seen(seen: &[u32], x: usize, stamp: u32) -> bool
     ensures { result ≡ is_seen stamp seen.now x }
 {
-    if seen.len() <= x {
-        return true;
-    }
-    if seen[x] == stamp {
-        return true;
-    }
-    false
+    seen.len() <= x || seen[x] == stamp
 }
 
 // The numbers of one range that are new in this row, behind `at`.
@@ -64,18 +40,15 @@ fn note(
     requires { (at ≤ 2 * max_u32) × (length seen.old ≤ max_categories) }
     ensures { Noted stamp (numbers_got first count references.now) seen.old seen.new out.old out.new at result }
 {
-    let mut i = first as usize;
-    let end = i + count as usize;
+    let start = first as usize;
+    let end = start + count as usize;
     let mut to = at;
-    while i < end {
+    for i in start..end {
         let x = table::get_u16(references, REFERENCE_BYTES * i);
-        if is_seen(seen, x as usize, stamp) {
-            i += 1;
-        } else {
-            place::place32(seen, x as usize, stamp);
-            place::place16(out, to, x);
+        if !is_seen(seen, x as usize, stamp) {
+            place::place(seen, x as usize, stamp);
+            place::place(out, to, x);
             to += 1;
-            i += 1;
         }
     }
     to
@@ -95,16 +68,12 @@ fn named(
     requires { (count ≤ max_ranges) × ((at ≤ max_u32) × (length seen.old ≤ max_categories)) }
     ensures { Noted stamp (covers_got c (slots_got 0 count ranges.now) references.now) seen.old seen.new out.old out.new at result }
 {
-    let mut i = 0;
     let mut to = at;
-    while i < count {
+    for i in 0..count {
         if holds(ranges, i, c) {
             let first = table::get_u16(ranges, RANGE_BYTES * i + FIRST_AT);
             let n = table::get_u16(ranges, RANGE_BYTES * i + COUNT_AT);
             to = note(references, first, n, seen, stamp, out, to);
-            i += 1;
-        } else {
-            i += 1;
         }
     }
     to
@@ -115,7 +84,7 @@ pub fn covering(
     ranges: &[u8],
     references: &[u8],
     count: usize,
-    fallback: Fallback,
+    fallback: Option<u16>,
     c: u32,
     seen: &mut [u32],
     stamp: u32,
@@ -130,10 +99,10 @@ pub fn covering(
         return to;
     }
     match fallback {
-        Fallback::Category(number) => {
-            place::place16(out, at, number);
+        Some(number) => {
+            place::place(out, at, number);
             at + 1
         }
-        Fallback::Nothing => at,
+        None => at,
     }
 }

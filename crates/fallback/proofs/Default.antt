@@ -21,32 +21,26 @@ use Rattle.paper.proofs.Rows.Lowest.{lowest_first}
 use Rattle.paper.proofs.Rows.Numbers.{name_found}
 use Rattle.paper.proofs.Tables.Laws.{pieces_length}
 use Rattle.by_name.specs.Lookup.{said, FindsCategory}
-use Rattle.by_name.specs.declared.CategoryFound.{CategoryFound}
-use Rattle.by_name.specs.declared.CategoryFound.TheVariants.{Category}
 use Rattle.cover.specs.Fallback.{fallback_row}
 use Rattle.fallback.specs.Fallback.{found_row}
-use Rattle.cover.specs.declared.Fallback.{Fallback}
-use Rattle.cover.specs.declared.Fallback.TheVariants.{Category as Default, Nothing}
+use Rattle.std.specs.Prelude.{None, Ok, Option, Result, Some}
+use Rattle.paper.specs.declared.Refusal.{Refusal}
 
 -- the row tells the case
-pub fallback_one : (a b : Fallback) → fallback_row a ≡ fallback_row b → a ≡ b
-fallback_one (Default x) (Default y) e = let f : x ≡ y = cc in ap Default f
-fallback_one (Default x) Nothing e = nil_cons (sym e)
-fallback_one Nothing (Default y) e = nil_cons e
-fallback_one Nothing Nothing e = refl
+pub fallback_one : (a b : Option ℕ) → fallback_row a ≡ fallback_row b → a ≡ b
+fallback_one (Some x) (Some y) e = let f : x ≡ y = cc in ap Some f
+fallback_one (Some x) None e = nil_cons (sym e)
+fallback_one None (Some y) e = nil_cons e
+fallback_one None None e = refl
 
 module _ (store table : List ℕ) (count : ℕ) (name : List ℕ) where
   names_many : length (map (name_in store) (name_slots_of table count)) ≡ count
   names_many =
       length-map (name_slots_of table count) (name_in store) ∙ length-map (pieces name_slot_size count table) name_slot_of ∙ pieces_length name_slot_size count table
 
-  module _ (a : CategoryFound) (f : FindsCategory store table count name a) where
-    -- the row of each case is the row of what was found
-    pub found_as : (b : CategoryFound) → a ≡ b → found_row (said b) ≡ found_row (find_name store table count name)
-    found_as b e = ap (λ x. found_row (said x)) (sym e) ∙ ap found_row f.answer
-
+  module _ (a : Result (Option ℕ) Refusal) (f : FindsCategory store table count name a) where
     -- a number that is found is below the count
-    pub found_below : (number : ℕ) → a ≡ Category number → number < count
+    pub found_below : (number : ℕ) → a ≡ Ok (Some number) → number < count
     unfolding find_name
     found_below number e = go (ltb (length table) (name_slot_size * count) || any (past_store store) (name_slots_of table count)) (ap said (sym e) ∙ f.answer)
       where

@@ -8,20 +8,15 @@ ghost use Rattle.paper.specs.Rows.Numbers.{find_name};
 ghost use Rattle.cover.specs.Fallback.{fallback_row};
 ghost use Rattle.fallback.specs.Fallback.{found_row};
 
-use by_name::CategoryFound;
-use cover::Fallback;
-
 const DEFAULT: [u8; 7] = *b"DEFAULT";
 
 // DEFAULT's number, found by its name.
-pub fn fallback_of(names: &[u8], categories: &[u8], count: usize) -> Fallback
+pub fn fallback_of(names: &[u8], categories: &[u8], count: usize) -> Option<u16>
     requires { count ≤ max_categories }
     ensures { fallback_row result ≡ found_row (find_name names.now categories.now count default) }
 {
-    let name = DEFAULT;
-    match by_name::find_category(names, categories, count, &name) {
-        CategoryFound::Category(number) => Fallback::Category(number as u16),
-        CategoryFound::Absent => Fallback::Nothing,
-        CategoryFound::Refused(_refusal) => Fallback::Nothing,
+    match by_name::find_category(names, categories, count, &DEFAULT) {
+        Ok(Some(number)) => Some(number as u16),
+        Ok(None) | Err(_) => None,
     }
 }

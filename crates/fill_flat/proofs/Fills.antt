@@ -12,7 +12,7 @@ use mathlib.Core.Bool.{Bool, true, false, cond}
 use mathlib.Core.List.{List, [], ◌∷◌, map}
 use lib.Dec.{T, leb, ltb}
 use lib.ListN.{length, get_or, drop, length-drop, length-map}
-use lib.Seq.{sets, length-sets, get_or-drop, drop-drop}
+use lib.Seq.{sets, get_or-drop, drop-drop}
 use Rattle.paper.specs.Sizes.{max_categories, max_row_places, bmp_size}
 use Rattle.paper.specs.Lists.{all, joined}
 use Rattle.paper.specs.Rows.Covering.{or_else}
@@ -51,29 +51,25 @@ map_at f (b ∷ bs) (suc i) h = map_at f bs i (le_of_suc-le-suc h)
 
 -- ---- boundaries bs, and at each its row by f
 
-pub record Filling (f : ℕ → List ℕ) (bs seen₀ : List ℕ) (lent : FlatRoom) (seen : List ℕ) (now : FlatRoom) (b rows at : ℕ) : Type 0 where
+pub record Filling (f : ℕ → List ℕ) (bs : List ℕ) (lent : FlatRoom) (seen : List ℕ) (now : FlatRoom) (b rows at : ℕ) : Type 0 where
   pub most : b ≤ no_boundary
   pub few : rows ≤ b
   pub room : length seen ≡ max_categories
-  pub long_seen : length seen ≡ length seen₀
   pub long_index : length now.index ≡ length lent.index
-  pub long_pool : length now.pool ≡ length lent.pool
   pub old : T (all (λ v. leb v rows) seen)
   pub rest : drop rows bs ≡ onward no_boundary b bs
   pub offset : at ≡ offset_of (map f bs) rows
   pub left_pool : sets now.pool at (joined (map f (drop rows bs))) ≡ sets lent.pool 0 (joined (map f bs))
   pub entries : (c : ℕ) → c < b → c < length lent.index → EntryAt bs (map f bs) c (get_or now.index c 0)
 
-module _ (f : ℕ → List ℕ) (bs seen₀ : List ℕ) (lent : FlatRoom) where
-  pub filling_start : Clean seen₀ → onward no_boundary 0 bs ≡ bs → Filling f bs seen₀ lent seen₀ lent 0 0 0
-  filling_start h e =
+module _ (f : ℕ → List ℕ) (bs : List ℕ) (lent : FlatRoom) where
+  pub filling_start : (seen₀ : List ℕ) → Clean seen₀ → onward no_boundary 0 bs ≡ bs → Filling f bs lent seen₀ lent 0 0 0
+  filling_start seen₀ h e =
       record {
         most = omega arith;
         few = omega arith;
         room = h.room;
-        long_seen = refl;
         long_index = refl;
-        long_pool = refl;
         old = h.unseen;
         rest = sym e;
         offset = offset_none (map f bs);
@@ -81,7 +77,7 @@ module _ (f : ℕ → List ℕ) (bs seen₀ : List ℕ) (lent : FlatRoom) where
         entries = λ c k. absurd (not-suc-le-zero k);
       }
 
-  module _ (up : T (rising_from 0 bs)) (seen : List ℕ) (now : FlatRoom) (b rows at : ℕ) (h : Filling f bs seen₀ lent seen now b rows at) where
+  module _ (up : T (rising_from 0 bs)) (seen : List ℕ) (now : FlatRoom) (b rows at : ℕ) (h : Filling f bs lent seen now b rows at) where
     module _ (n : ℕ) (e : onward no_boundary b bs ≡ b ∷ onward no_boundary n bs) where
       here : drop rows bs ≡ b ∷ onward no_boundary n bs
       here = h.rest ∙ e
@@ -128,15 +124,13 @@ module _ (f : ℕ → List ℕ) (bs seen₀ : List ℕ) (lent : FlatRoom) where
           → b < n → n ≤ no_boundary → length seen' ≡ length seen → T (all (λ v. leb v (rows + 1)) seen')
           → next.pool ≡ sets now.pool at (f b) → end ≡ at + length (f b) → entry ≡ entry_of at (length (f b))
           → Spread b n entry now.index next.index
-          → Filling f bs seen₀ lent seen' next n (rows + 1) end
+          → Filling f bs lent seen' next n (rows + 1) end
       filling_turn seen' next end entry bn nt ls o ep ee en s =
           record {
             most = nt;
             few = let u = h.few in omega arith;
             room = ls ∙ h.room;
-            long_seen = ls ∙ h.long_seen;
             long_index = s.long ∙ h.long_index;
-            long_pool = ap length ep ∙ length-sets now.pool at (f b) ∙ h.long_pool;
             old = o;
             rest = after;
             offset =
@@ -172,19 +166,19 @@ module _ (f : ℕ → List ℕ) (bs seen₀ : List ℕ) (lent : FlatRoom) where
 
 -- ---- over the slots of two tables; `ds` is the row where they name none
 
-module _ (ranges references : List ℕ) (count : ℕ) (ds : List ℕ) (w : Buildable ranges references count ds) (seen₀ : List ℕ) (lent : FlatRoom) where
+module _ (ranges references : List ℕ) (count : ℕ) (ds : List ℕ) (w : Buildable ranges references count ds) (lent : FlatRoom) where
   rises : T (rising_from 0 (boundaries_of (slots_got 0 count ranges)))
   unfolding boundaries_of
   rises = ascending_rising (0 ∷ ends_of (slots_got 0 count ranges))
 
-  pub walk_start : (b : ℕ) → b ≡ 0 → Clean seen₀
-      → Filling (row_of ds (slots_got 0 count ranges) references) (boundaries_of (slots_got 0 count ranges)) seen₀ lent seen₀ lent b 0 0
-  walk_start b z h =
-      subst (λ x. Filling (row_of ds (slots_got 0 count ranges) references) (boundaries_of (slots_got 0 count ranges)) seen₀ lent seen₀ lent x 0 0) (sym z)
-      (filling_start _ _ seen₀ lent h (walk_begins ranges references count ds w.one w.readable))
+  pub walk_start : (seen₀ : List ℕ) (b : ℕ) → b ≡ 0 → Clean seen₀
+      → Filling (row_of ds (slots_got 0 count ranges) references) (boundaries_of (slots_got 0 count ranges)) lent seen₀ lent b 0 0
+  walk_start seen₀ b z h =
+      subst (λ x. Filling (row_of ds (slots_got 0 count ranges) references) (boundaries_of (slots_got 0 count ranges)) lent seen₀ lent x 0 0) (sym z)
+      (filling_start _ _ lent seen₀ h (walk_begins ranges references count ds w.one w.readable))
 
   module _ (seen : List ℕ) (now : FlatRoom) (b rows at : ℕ)
-      (h : Filling (row_of ds (slots_got 0 count ranges) references) (boundaries_of (slots_got 0 count ranges)) seen₀ lent seen now b rows at)
+      (h : Filling (row_of ds (slots_got 0 count ranges) references) (boundaries_of (slots_got 0 count ranges)) lent seen now b rows at)
       (lt : b < no_boundary) where
     next : (n : ℕ) → n ≡ boundary_after b (slots_got 0 count ranges) → (b < n) × (n ≤ no_boundary)
     next n e = walk_rises ranges references count ds w.one w.readable b n lt e
@@ -208,25 +202,25 @@ module _ (ranges references : List ℕ) (count : ℕ) (ds : List ℕ) (w : Build
         unfolding rows_of
         row_fits =
             let x = ends in
-            let y = fits_here _ _ seen₀ lent rises seen now b rows at h n goes in
+            let y = fits_here _ _ lent rises seen now b rows at h n goes in
             let z = w.offsets_fit in
             (omega arith, omega arith)
 
         pub walk_turn : (index' : List ℕ) (entry : ℕ) → entry ≡ entry_of at (end - at) → Spread b n entry now.index index'
-            → Filling (row_of ds (slots_got 0 count ranges) references) (boundaries_of (slots_got 0 count ranges)) seen₀ lent
+            → Filling (row_of ds (slots_got 0 count ranges) references) (boundaries_of (slots_got 0 count ranges)) lent
             seen' (record { index = index'; pool = pool' }) n (rows + 1) end
         walk_turn index' entry q s =
             let x = ends in
             let len : end - at ≡ length (row_of ds (slots_got 0 count ranges) references b) = omega arith in
-            filling_turn _ _ seen₀ lent rises seen now b rows at h n goes seen' (record { index = index'; pool = pool' }) end entry
+            filling_turn _ _ lent rises seen now b rows at h n goes seen' (record { index = index'; pool = pool' }) end entry
             (next n e).0 (next n e).1 (ap length r.seen ∙ length_stamps (rows + 1) seen (covers_got b (slots_got 0 count ranges) references))
             (subst (λ z. T (all (λ v. leb v (rows + 1)) z)) (sym r.seen) (stamps_old rows seen (covers_got b (slots_got 0 count ranges) references) h.old))
             (r.out ∙ ap (sets now.pool at) is_row) x (q ∙ ap (entry_of at) len) s
 
   pub walk_done : (seen : List ℕ) (now : FlatRoom) (b rows at : ℕ)
-      → Filling (row_of ds (slots_got 0 count ranges) references) (boundaries_of (slots_got 0 count ranges)) seen₀ lent seen now b rows at
+      → Filling (row_of ds (slots_got 0 count ranges) references) (boundaries_of (slots_got 0 count ranges)) lent seen now b rows at
       → no_boundary ≤ b → length lent.index ≤ bmp_size
       → FlatFilled (boundaries_of (slots_got 0 count ranges)) (rows_of ds (slots_got 0 count ranges) references) lent now
   unfolding rows_of
   walk_done seen now b rows at h g l =
-      filling_done _ _ seen₀ lent rises seen now b rows at h (walk_ends ranges references count ds w.one w.readable b g) g l
+      filling_done _ _ lent rises seen now b rows at h (walk_ends ranges references count ds w.one w.readable b g) g l

@@ -1,3 +1,2 @@
--- The laws of an entry's run and of the walk.
-pub mod Runs
+-- The laws of the walk.
 pub mod Fills

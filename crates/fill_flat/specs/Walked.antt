@@ -1,7 +1,7 @@
 -- The walk over the slots of two tables that fills a flat table: what it asks and what it leaves. Over tables that hold together it is the
 -- reading's flat table, as the promise of crate `flat` shows.
 -- Assumes nothing.
-use Rattle.std.specs.Prelude.{ℕ, ◌≤◌, ◌<◌, ◌≡◌, cond, List, [], ltb, length, get_or}
+use Rattle.std.specs.Prelude.{ℕ, ◌≤◌, ◌<◌, ◌≡◌, List, [], length, get_or}
 use Rattle.std.proofs.lemmas.List.Edits.{sets}
 use Rattle.paper.specs.Sizes.{max_row_places}
 use Rattle.paper.specs.Lists.{joined}
@@ -13,9 +13,6 @@ use Rattle.fill_rows.specs.Walked.{rows_of, Readable}
 pub record FlatRoom : Type 0 where
   pub index : List ℕ
   pub pool : List ℕ
-
-abbrev pub smaller : ℕ → ℕ → ℕ
-smaller a b = cond (ltb b a) b a
 
 -- entry e at each place from `from` up to `to`, as far as there are places
 pub record Spread (from to e : ℕ) (l s : List ℕ) : Type 0 where

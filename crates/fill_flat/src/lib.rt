@@ -8,24 +8,14 @@ ghost use Rattle.paper.specs.Rows.Flat.{entry_of};
 ghost use Rattle.cover.specs.Slots.{slots_got};
 ghost use Rattle.cover.specs.Fallback.{fallback_row};
 ghost use Rattle.fill_rows.specs.Walked.{boundaries_of, rows_of, Clean};
-ghost use Rattle.fill_flat.specs.Walked.{smaller, Spread, Buildable, FlatFilled};
+ghost use Rattle.fill_flat.specs.Walked.{Spread, Buildable, FlatFilled};
 
-use cover::Fallback;
 use paper::MAX_CATEGORIES;
 use walk::NO_BOUNDARY;
 use window::NEAR_BYTES;
 
 // A flat entry is offset * OFFSET_UNIT + length.
 const OFFSET_UNIT: usize = 256;
-
-fn smaller_of(a: usize, b: usize) -> usize
-    ensures { result ≡ smaller a b }
-{
-    if b < a {
-        return b;
-    }
-    a
-}
 
 fn entry_of(offset: usize, len: usize) -> u32
     requires { offset + len ≤ max_row_places }
@@ -38,11 +28,9 @@ fn entry_of(offset: usize, len: usize) -> u32
 fn spread(index: &mut [u32], from: usize, to: usize, entry: u32)
     ensures { Spread from to entry index.old index.new }
 {
-    let end = smaller_of(to, index.len());
-    let mut i = from;
-    while i < end {
-        index[i] = entry;
-        i += 1;
+    let end = to.min(index.len());
+    if from < end {
+        index[from..end].fill(entry);
     }
 }
 
@@ -52,7 +40,7 @@ fn fill_flat(
     ranges: &[u8],
     references: &[u8],
     count: usize,
-    fallback: Fallback,
+    fallback: Option<u16>,
     seen: &mut [u32],
     near: &mut [u8],
     index: &mut [u32],
@@ -64,6 +52,7 @@ fn fill_flat(
     let mut w = window::open_window(ranges, count, 0, near);
     let mut rows: u32 = 0;
     let mut at: usize = 0;
+    // A step is as long as the way to the next boundary.
     while w.at < NO_BOUNDARY {
         let end = window::covering_near(
             ranges,
@@ -91,7 +80,7 @@ pub fn fill_fresh(
     ranges: &[u8],
     references: &[u8],
     count: usize,
-    fallback: Fallback,
+    fallback: Option<u16>,
     index: &mut [u32],
     pool: &mut [u16],
 )

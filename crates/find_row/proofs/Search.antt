@@ -1,16 +1,13 @@
 -- The binary search: what stands below `lo` is at or below c, what stands from `hi` on above it, as far as the search has looked.
 -- Assumes nothing.
-use Prim.Native.Nat.{ℕ, zero, suc, ◌-◌, ◌≤◌, ◌<◌, zero-le, suc-le-suc}
+use Prim.Native.Nat.{ℕ, zero, suc, ◌≤◌, ◌<◌, zero-le, suc-le-suc}
 use native.Mathlib.Nat.{not-suc-le-zero, le_of_suc-le-suc}
-use native.Mathlib.Numerals.{add-one}
 use native.Mathlib.Omega.{arith}
-use mathlib.Core.Path.{◌≡◌, refl, sym, ◌∙◌, subst}
-use mathlib.Core.Bool.{Bool, true, false}
+use mathlib.Core.Path.{◌≡◌, sym, ◌∙◌, subst}
 use mathlib.Core.List.{List, [], ◌∷◌}
 use lib.Dec.{T, leb}
 use lib.ListN.{length, get_or}
 use mir.Facts.{and_yes, eqb_yes}
-use borrow.Author.Tests.{leb-true, leb-false}
 use Rattle.paper.specs.CharDef.Reading.{Reading}
 use Rattle.paper.specs.Rows.Covering.{boundaries, categories_at, rows}
 use Rattle.paper.specs.Rows.Flat.{RowFound}
@@ -27,55 +24,6 @@ pub record Search (bs : List ℕ) (c lo hi : ℕ) : Type 0 where
   pub apart : 0 < length bs → lo < hi
   pub low : 0 < lo → get_or bs lo 0 ≤ c
   pub high : hi < length bs → c < get_or bs hi 0
-
-pub search_start : (bs : List ℕ) (c n : ℕ) → n ≡ length bs → Search bs c 0 n
-search_start bs c n e = record { ordered = omega arith; inside = omega arith; apart = λ h. omega arith; low = λ h. absurd (nothing h); high = λ h. absurd (whole h) }
-  where
-    nothing : 0 < 0 → ⊥
-    nothing h = omega arith
-
-    whole : n < length bs → ⊥
-    whole h = omega arith
-
-pub search_up : (bs : List ℕ) (c lo hi mid : ℕ) → Search bs c lo hi → lo < mid → mid < hi → get_or bs mid 0 ≤ c → Search bs c mid hi
-search_up bs c lo hi mid s h k e = record { ordered = omega arith; inside = s.inside; apart = λ h. k; low = λ h. e; high = s.high }
-
-pub search_down : (bs : List ℕ) (c lo hi mid : ℕ) → Search bs c lo hi → lo < mid → mid < hi → c < get_or bs mid 0 → Search bs c lo mid
-search_down bs c lo hi mid s h k e =
-    let i : hi ≤ length bs = s.inside in
-    record { ordered = omega arith; inside = omega arith; apart = λ z. h; low = s.low; high = λ h. e }
-
-module _ (bs : List ℕ) (c : ℕ) where
-  -- nothing is left between the two
-  row_there : (lo hi : ℕ) → Search bs c lo hi → hi - lo ≤ 1 → 0 < length bs → get_or bs lo 0 ≤ c → RowFound bs c lo
-  row_there lo hi s h some below = record { inside = let p = closed in let q = upto in omega arith; up_to = below; next_above = next }
-    where
-      closed : lo < hi
-      closed = s.apart some
-
-      upto : hi ≤ length bs
-      upto = s.inside
-
-      next : suc lo < length bs → c < get_or bs (suc lo) 0
-      next p =
-          let q = closed in
-          let e : hi ≡ suc lo = omega (arith, add-one lo) in
-          rw e at (s.high (omega (arith, add-one lo)))
-
-  pub search_done : (lo hi : ℕ) → Search bs c lo hi → hi - lo ≤ 1 → RowSought bs c lo
-  search_done (suc lo) hi s h = found (row_there (suc lo) hi s h some (s.low (suc-le-suc zero-le)))
-    where
-      some : 0 < length bs
-      some = let p : suc lo ≤ hi = s.ordered in let q : hi ≤ length bs = s.inside in omega (arith, add-one lo)
-  search_done zero hi s h = go (leb (get_or bs 0 0) c) refl (length bs) refl
-    where
-      go : (z : Bool) → leb (get_or bs 0 0) c ≡ z → (n : ℕ) → length bs ≡ n → RowSought bs c 0
-      go false e n k = none_below refl (λ h. leb-false (get_or bs 0 0) c e)
-      go true e zero k = none_below refl (λ h. absurd (none h k))
-        where
-          none : 0 < length bs → length bs ≡ 0 → ⊥
-          none h k = omega arith
-      go true e (suc n) k = found (row_there 0 hi s h (subst (λ m. 0 < m) (sym k) (suc-le-suc zero-le)) (leb-true (get_or bs 0 0) c e))
 
 -- ---- what the answer says
 

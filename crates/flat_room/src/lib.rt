@@ -10,18 +10,16 @@ use paper::{BMP_SIZE, FLAT_ROW_LONG, TABLE_ROOM_SHORT};
 // A flat entry is offset * 256 + length, so a row has at most so many categories.
 const MAX_FLAT_ROW: usize = 255;
 
-// The number of the refusal, 16, then 17; 0 where there is none.
-pub fn refusal_of(longest: usize, places: usize, index: usize, pool: usize) -> u32
+// The number of the refusal, 16, then 17, if there is one.
+#[tactic(auto, unfolding(crate::specs::Room::refusal))]
+pub fn refusal_of(longest: usize, places: usize, index: usize, pool: usize) -> Option<u32>
     ensures { result ≡ refusal longest places index pool }
 {
     if MAX_FLAT_ROW < longest {
-        return FLAT_ROW_LONG;
+        return Some(FLAT_ROW_LONG);
     }
-    if index < BMP_SIZE {
-        return TABLE_ROOM_SHORT;
+    if index < BMP_SIZE || pool < places {
+        return Some(TABLE_ROOM_SHORT);
     }
-    if pool < places {
-        return TABLE_ROOM_SHORT;
-    }
-    0
+    None
 }

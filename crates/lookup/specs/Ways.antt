@@ -7,6 +7,8 @@ use Rattle.paper.specs.Rows.Flat.{RowFound, entry_offset, entry_length}
 use Rattle.paper.specs.Rows.Lookup.{Looked, gives, refuses, of_flat, of_rows, Part, from_zero}
 use Rattle.lookup.specs.declared.Located.{Located}
 use Rattle.lookup.specs.Categories.{located}
+use Rattle.std.specs.Prelude.{Result}
+use Rattle.paper.specs.declared.Refusal.{Refusal}
 
 -- a part of a pool that has so many places, or 26
 unfoldable pub within : ℕ → Part → Looked Part
@@ -28,7 +30,7 @@ unfoldable pub by_row : (boundaries starts lengths : List ℕ) → (places i : �
 unfolding of_row
 by_row bs starts lengths places i = cond (from_zero bs) (of_row starts lengths places i) (refuses tables_apart)
 
-pub record ByRows (boundaries starts lengths : List ℕ) (places c : ℕ) (r : Located) : Type 0 where
+pub record ByRows (boundaries starts lengths : List ℕ) (places c : ℕ) (r : Result Located Refusal) : Type 0 where
   pub row : ℕ
   pub found : T (from_zero boundaries) → RowFound boundaries c row
   pub answer : r ≡ located (by_row boundaries starts lengths places row)

@@ -10,28 +10,22 @@ ghost use Rattle.lookup.specs.Ways.{by_flat, of_row, ByRows};
 use packed::{OFFSET_UNIT, Span};
 use paper::{BMP_SIZE, NOT_SCALAR, Refusal, TABLES_APART};
 
-#[derive(Drop)]
+#[derive(Clone, Copy)]
 pub enum Located {
     InFlat(Span),
     InRows(Span),
-    Refused(Refusal),
 }
 
 // "The boundary list it uses is empty or doesn't begin at 0" is false.
 fn begins_at_zero(boundaries: &[u32]) -> bool
     ensures { result ≡ from_zero boundaries.now }
 {
-    if boundaries.len() == 0 {
-        return false;
-    }
-    if boundaries[0] == 0 {
-        return true;
-    }
-    false
+    matches!(boundaries.first(), Some(0))
 }
 
 // By the flat table: the part that the entry of a code point names.
-fn in_flat(flat_index: &[u32], places: usize, at: usize) -> Located
+#[tactic(auto, unfolding(crate::specs::Ways::by_flat))]
+fn in_flat(flat_index: &[u32], places: usize, at: usize) -> Result<Located, Refusal>
     requires { at < length flat_index.now }
     ensures { result ≡ located (by_flat (get_or flat_index.now at 0) places) }
 {
@@ -39,40 +33,40 @@ fn in_flat(flat_index: &[u32], places: usize, at: usize) -> Located
     let start = (entry / OFFSET_UNIT) as usize;
     let len = (entry % OFFSET_UNIT) as usize;
     if places < start + len {
-        return Located::Refused(Refusal {
+        return Err(Refusal {
             number: TABLES_APART,
             place: 0,
         });
     }
-    Located::InFlat(Span { start, len })
+    Ok(Located::InFlat(Span { start, len }))
 }
 
 // The part of row number `row`.
-fn of_row(row_starts: &[u32], row_lengths: &[u16], places: usize, row: usize) -> Located
+#[tactic(auto, unfolding(crate::specs::Ways::of_row))]
+fn of_row(
+    row_starts: &[u32],
+    row_lengths: &[u16],
+    places: usize,
+    row: usize,
+) -> Result<Located, Refusal>
     ensures { result ≡ located (of_row row_starts.now row_lengths.now places row) }
 {
-    if row_starts.len() <= row {
-        return Located::Refused(Refusal {
-            number: TABLES_APART,
-            place: 0,
-        });
-    }
-    if row_lengths.len() <= row {
-        return Located::Refused(Refusal {
+    if row_starts.len() <= row || row_lengths.len() <= row {
+        return Err(Refusal {
             number: TABLES_APART,
             place: 0,
         });
     }
     let start = row_starts[row] as usize;
-    let len = row_lengths[row] as usize;
+    let len = usize::from(row_lengths[row]);
     let end = start + len;
     if places < end {
-        return Located::Refused(Refusal {
+        return Err(Refusal {
             number: TABLES_APART,
             place: 0,
         });
     }
-    Located::InRows(Span { start, len })
+    Ok(Located::InRows(Span { start, len }))
 }
 
 // By rows: the part of the row that is found.
@@ -82,11 +76,11 @@ fn in_rows(
     row_lengths: &[u16],
     places: usize,
     c: u32,
-) -> Located
+) -> Result<Located, Refusal>
     ensures { ByRows boundaries.now row_starts.now row_lengths.now places c result }
 {
     if !begins_at_zero(boundaries) {
-        return Located::Refused(Refusal {
+        return Err(Refusal {
             number: TABLES_APART,
             place: 0,
         });
@@ -109,20 +103,20 @@ pub fn locate_categories(
     row_lengths: &[u16],
     row_pool: &[u16],
     c: u32,
-) -> Located
+) -> Result<Located, Refusal>
     ensures { Locates (record { index = flat_index.now; flat = flat_pool.now; boundaries = boundaries.now; starts = row_starts.now; lengths = row_lengths.now; pool = row_pool.now }) c result }
 {
     if !packed::is_scalar(c) {
-        return Located::Refused(Refusal {
+        return Err(Refusal {
             number: NOT_SCALAR,
             place: 0,
         });
     }
-    if flat_index.len() == 0 {
+    if flat_index.is_empty() {
         return in_rows(boundaries, row_starts, row_lengths, row_pool.len(), c);
     }
     if flat_index.len() != BMP_SIZE {
-        return Located::Refused(Refusal {
+        return Err(Refusal {
             number: TABLES_APART,
             place: 0,
         });
@@ -155,16 +149,8 @@ pub fn lookup_categories<'a>(
         row_pool,
         c,
     ) {
-        Located::InFlat(s) => {
-            let start = s.start;
-            let end = start + s.len;
-            &flat_pool[start..end]
-        }
-        Located::InRows(s) => {
-            let start = s.start;
-            let end = start + s.len;
-            &row_pool[start..end]
-        }
-        Located::Refused(_) => &flat_pool[0..0],
+        Ok(Located::InFlat(Span { start, len })) => &flat_pool[start..start + len],
+        Ok(Located::InRows(Span { start, len })) => &row_pool[start..start + len],
+        Err(_) => &flat_pool[0..0],
     }
 }

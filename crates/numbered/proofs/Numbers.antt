@@ -1,27 +1,24 @@
 -- Definitions and names by number: what the code reads at an entry is the paper's, and which way its tests go.
 -- Assumes nothing.
-use Prim.Native.Nat.{ℕ, suc, ◌+◌, ◌-◌, ◌*◌, ◌≤◌, ◌<◌}
-use native.Mathlib.Nat.{add-sub_cancel_left}
+use Prim.Native.Nat.{ℕ, suc, ◌+◌, ◌*◌, ◌≤◌, ◌<◌}
 use native.Mathlib.Omega.{arith}
 use mathlib.Core.Path.{◌≡◌, refl, sym, ap, ap₂, ◌∙◌}
 use mathlib.Core.Bool.{Bool, true, false, cond, ◌||◌}
-use mathlib.Core.List.{List, []}
+use mathlib.Core.List.{List}
 use lib.Dec.{leb, ltb, eqb}
-use lib.ListN.{length, get_or, take, drop}
+use lib.ListN.{length, get_or, drop}
 use lib.Seq.{get_or-take, get_or-drop}
-use borrow.Author.Tests.{le-leb, lt-leb, lt-ltb, le-ltb, ltb-false}
+use borrow.Author.Tests.{lt-leb, lt-ltb, le-ltb, ltb-false}
 use Rattle.paper.specs.Refusals.{number_unknown, tables_apart}
-use Rattle.paper.specs.Rows.Lookup.{Looked, gives, refuses}
+use Rattle.paper.specs.Rows.Lookup.{gives, refuses}
 use Rattle.paper.specs.Rows.Numbers.{past_store, entry_at, lookup_definition, category_name}
 use Rattle.paper.specs.Tables.Layout.{NameSlot, name_slot_of, name_slot_size, definition_size, name_len_at, invoke_at, group_at}
 use Rattle.paper.specs.Tables.Lent.{got, num}
 use Rattle.paper.proofs.Apart.{zero_one}
 use Rattle.paper.proofs.Tables.Laws.{got_in, num_part}
-use Rattle.numbered.specs.declared.DefinitionFound.TheVariants as definition_found
-use Rattle.paper.specs.declared.Refusal.{Refusal}
 use Rattle.packed.specs.declared.Span.{Span}
-use Rattle.numbered.specs.declared.NameFound.TheVariants as name_found
-use Rattle.numbered.specs.Numbers.{definition, name, name_held}
+use Rattle.numbered.specs.Numbers.{definition, name}
+use Rattle.std.specs.Prelude.{Err, Ok}
 
 -- ---- fields of an entry, as the code reads them
 
@@ -38,19 +35,10 @@ module _ (w k : ℕ) (l : List ℕ) (long : w * k + w ≤ length l) where
 -- ---- definitions
 
 module _ (l : List ℕ) (count k : ℕ) where
-  pub definition_unknown : count ≤ k → definition_found.Refused (record { number = number_unknown; place = 0 }) ≡ definition (lookup_definition l count k)
-  unfolding lookup_definition
-  definition_unknown h = rw (le-leb count k h)
-
   module _ (known : k < count) where
-    pub definition_past : length l < definition_size * suc k
-        → definition_found.Refused (record { number = tables_apart; place = 0 }) ≡ definition (lookup_definition l count k)
-    unfolding lookup_definition
-    definition_past h = rw (lt-leb count k known, lt-ltb (length l) (definition_size * suc k) h)
-
     pub definition_there : definition_size * suc k ≤ length l → (a b : Bool) (n : ℕ)
         → a ≡ eqb (get_or l (definition_size * k + invoke_at) 0) 1 → b ≡ eqb (get_or l (definition_size * k + group_at) 0) 1 → n ≡ got 4 (definition_size * k) l
-        → definition_found.Definition (record { invoke = a; group = b; length = n }) ≡ definition (lookup_definition l count k)
+        → Ok (record { invoke = a; group = b; length = n }) ≡ definition (lookup_definition l count k)
     unfolding lookup_definition
     definition_there h a b n ea eb en =
         let long : definition_size * k + definition_size ≤ length l = omega arith in
@@ -62,15 +50,7 @@ module _ (l : List ℕ) (count k : ℕ) where
 -- ---- names
 
 module _ (store l : List ℕ) (count k : ℕ) where
-  pub name_unknown : count ≤ k → name_found.Refused (record { number = number_unknown; place = 0 }) ≡ name (category_name store l count k)
-  unfolding category_name
-  name_unknown h = rw (le-leb count k h)
-
   module _ (known : k < count) where
-    pub slot_past : length l < name_slot_size * suc k → name_found.Refused (record { number = tables_apart; place = 0 }) ≡ name (category_name store l count k)
-    unfolding category_name
-    slot_past h = rw (lt-leb count k known, lt-ltb (length l) (name_slot_size * suc k) h)
-
     module _ (h : name_slot_size * suc k ≤ length l) (start len : ℕ)
         (es : start ≡ got 2 (name_slot_size * k) l) (el : len ≡ got 2 (name_slot_size * k + name_len_at) l) where
       slot_is : name_slot_of (entry_at name_slot_size l k) ≡ record { start = start; len = len }
@@ -79,20 +59,20 @@ module _ (store l : List ℕ) (count k : ℕ) where
           sym (ap₂ (λ a b. record { start = a; len = b }) (es ∙ first_at name_slot_size k l long 2 (omega arith))
           (el ∙ number_at name_slot_size k l long 2 name_len_at (omega arith)))
 
-      pub name_past : length store < start + len → name_found.Refused (record { number = tables_apart; place = 0 }) ≡ name (category_name store l count k)
+      pub name_past : length store < start + len → Err (record { number = tables_apart; place = 0 }) ≡ name (category_name store l count k)
       unfolding category_name
       name_past p =
           rw (lt-leb count k known, le-ltb (length l) (name_slot_size * suc k) h)
           (sym (ap (λ q. name (cond (past_store store q) (refuses tables_apart) (gives q))) slot_is ∙ rw (lt-ltb (length store) (start + len) p)))
 
-      pub name_there : start + len ≤ length store → name_found.At (record { start = start; len = len }) ≡ name (category_name store l count k)
+      pub name_there : start + len ≤ length store → Ok (record { start = start; len = len }) ≡ name (category_name store l count k)
       unfolding category_name
       name_there p =
           rw (lt-leb count k known, le-ltb (length l) (name_slot_size * suc k) h)
           (sym (ap (λ q. name (cond (past_store store q) (refuses tables_apart) (gives q))) slot_is ∙ rw (le-ltb (length store) (start + len) p)))
 
 -- a name that is there lies in the store
-pub name_inside : (store l : List ℕ) (count k : ℕ) (s : Span) → name_found.At s ≡ name (category_name store l count k) → s.start + s.len ≤ length store
+pub name_inside : (store l : List ℕ) (count k : ℕ) (s : Span) → Ok s ≡ name (category_name store l count k) → s.start + s.len ≤ length store
 unfolding category_name
 name_inside store l count k s e = go (leb count k) (ltb (length l) (name_slot_size * suc k)) (past_store store (name_slot_of (entry_at name_slot_size l k))) refl e
   where
@@ -100,7 +80,7 @@ name_inside store l count k s e = go (leb count k) (ltb (length l) (name_slot_si
     slot = name_slot_of (entry_at name_slot_size l k)
 
     go : (a b p : Bool) → past_store store slot ≡ p
-        → name_found.At s ≡ name (cond a (refuses number_unknown) (cond (b || p) (refuses tables_apart) (gives slot))) → s.start + s.len ≤ length store
+        → Ok s ≡ name (cond a (refuses number_unknown) (cond (b || p) (refuses tables_apart) (gives slot))) → s.start + s.len ≤ length store
     go true b p d e = zero_one (cc)
     go false true p d e = zero_one (cc)
     go false false true d e = zero_one (cc)
@@ -108,20 +88,3 @@ name_inside store l count k s e = go (leb count k) (ltb (length l) (name_slot_si
         let f : s ≡ record { start = slot.start; len = slot.len } = cc in
         let g : slot.start + slot.len ≤ length store = ltb-false (length store) (slot.start + slot.len) d in
         rw f g
-
--- and is what the part from its start to its end holds
-part_held : (store : List ℕ) (a : Looked NameSlot) (s : Span) → name_found.At s ≡ name a → take s.len (drop s.start store) ≡ name_held store a
-part_held store (gives p) s e = let f : s ≡ record { start = p.start; len = p.len } = cc in ap (λ x. take x.len (drop x.start store)) f
-part_held store (refuses n) s e = zero_one (cc)
-
-none_held : (store : List ℕ) (a : Looked NameSlot) (r : Refusal) → name_found.Refused r ≡ name a → [] ≡ name_held store a
-none_held store (gives p) r e = zero_one (cc)
-none_held store (refuses n) r e = refl
-
-module _ (store l : List ℕ) (count k : ℕ) where
-  pub name_part : (s : Span) → name_found.At s ≡ name (category_name store l count k)
-      → take (s.start + s.len - s.start) (drop s.start store) ≡ name_held store (category_name store l count k)
-  name_part s e = ap (λ n. take n (drop s.start store)) (add-sub_cancel_left s.start s.len) ∙ part_held store (category_name store l count k) s e
-
-  pub name_none : (r : Refusal) → name_found.Refused r ≡ name (category_name store l count k) → [] ≡ name_held store (category_name store l count k)
-  name_none r e = none_held store (category_name store l count k) r e

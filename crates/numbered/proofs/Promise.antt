@@ -17,8 +17,8 @@ use Rattle.paper.specs.declared.Counts.{Counts}
 use Rattle.paper.specs.declared.Refusal.{Refusal}
 use Rattle.paper.proofs.Apart.{zero_one, refuses_gives}
 use Rattle.paper.proofs.Rows.Numbers.{number_name, number_definition}
-use Rattle.numbered.specs.declared.NameFound.TheVariants as name_found
 use Rattle.numbered.specs.Numbers.{definition, name, name_held}
+use Rattle.std.specs.Prelude.{Err}
 
 held_of : Looked (List ℕ) → List ℕ
 held_of (gives l) = l
@@ -47,13 +47,13 @@ known [] k n h e = not-suc-le-zero h
 known (x ∷ l) zero n h e = refuses_gives (sym e)
 known (x ∷ l) (suc k) n h e = known l k n (le_of_suc-le-suc h) e
 
-refused_name : (store : List ℕ) (a : Looked NameSlot) (e : Refusal) → name a ≡ name_found.Refused e → name_of store a ≡ refuses e.number
+refused_name : (store : List ℕ) (a : Looked NameSlot) (e : Refusal) → name a ≡ Err e → name_of store a ≡ refuses e.number
 refused_name store (gives p) e h = zero_one (cc)
 refused_name store (refuses n) e h = let q : e ≡ record { number = n; place = 0 } = cc in ap (λ x. refuses x.number) (sym q)
 
-name_refused : (store : List ℕ) (a : Looked NameSlot) (n : ℕ) → name_of store a ≡ refuses n → name a ≡ name_found.Refused (record { number = n; place = 0 })
+name_refused : (store : List ℕ) (a : Looked NameSlot) (n : ℕ) → name_of store a ≡ refuses n → name a ≡ Err (record { number = n; place = 0 })
 name_refused store (gives p) n h = refuses_gives (sym h)
-name_refused store (refuses k) n h = let q : k ≡ n = cc in ap (λ x. name_found.Refused (record { number = x; place = 0 })) q
+name_refused store (refuses k) n h = let q : k ≡ n = cc in ap (λ x. Err (record { number = x; place = 0 })) q
 
 module _ (t : Tables) (n : Counts) (r : Reading) (h : handed_in t n ≡ some r) (k : ℕ) where
   named : name_of t.names (category_name t.names t.categories n.categories k) ≡ name_at r k
@@ -65,10 +65,10 @@ module _ (t : Tables) (n : Counts) (r : Reading) (h : handed_in t n ≡ some r) 
 
   -- 15 exactly where there is none, and never 26
   pub name_none : length r.names ≤ k
-      → name (category_name t.names t.categories n.categories k) ≡ name_found.Refused (record { number = number_unknown; place = 0 })
+      → name (category_name t.names t.categories n.categories k) ≡ Err (record { number = number_unknown; place = 0 })
   name_none i = name_refused t.names (category_name t.names t.categories n.categories k) number_unknown (named ∙ unknown r.names k i)
 
-  pub name_some : k < length r.names → (e : Refusal) → name (category_name t.names t.categories n.categories k) ≡ name_found.Refused e → ⊥
+  pub name_some : k < length r.names → (e : Refusal) → name (category_name t.names t.categories n.categories k) ≡ Err e → ⊥
   name_some i e d = known r.names k e.number i (sym named ∙ refused_name t.names (category_name t.names t.categories n.categories k) e d)
 
   -- the definition with that number, 15 exactly where there is none

@@ -6,18 +6,18 @@ use Rattle.paper.specs.CharDef.Reading.{Definition}
 use Rattle.paper.specs.Rows.Lookup.{Looked, gives, refuses}
 use Rattle.paper.specs.Rows.Numbers.{name_in}
 use Rattle.paper.specs.Tables.Layout.{NameSlot}
-use Rattle.numbered.specs.declared.DefinitionFound.{DefinitionFound}
-use Rattle.numbered.specs.declared.DefinitionFound.TheVariants as definition_found
-use Rattle.numbered.specs.declared.NameFound.{NameFound}
-use Rattle.numbered.specs.declared.NameFound.TheVariants as name_found
+use Rattle.std.specs.Prelude.{Err, Ok, Result}
+use Rattle.numbered.specs.declared.CategoryData.{CategoryData}
+use Rattle.paper.specs.declared.Refusal.{Refusal}
+use Rattle.packed.specs.declared.Span.{Span}
 
-abbrev pub definition : Looked Definition → DefinitionFound
-definition (gives d) = definition_found.Definition (record { invoke = d.invoke; group = d.group; length = d.len })
-definition (refuses n) = definition_found.Refused (record { number = n; place = 0 })
+abbrev pub definition : Looked Definition → Result CategoryData Refusal
+definition (gives d) = Ok (record { invoke = d.invoke; group = d.group; length = d.len })
+definition (refuses n) = Err (record { number = n; place = 0 })
 
-abbrev pub name : Looked NameSlot → NameFound
-name (gives p) = name_found.At (record { start = p.start; len = p.len })
-name (refuses n) = name_found.Refused (record { number = n; place = 0 })
+abbrev pub name : Looked NameSlot → Result Span Refusal
+name (gives p) = Ok (record { start = p.start; len = p.len })
+name (refuses n) = Err (record { number = n; place = 0 })
 
 abbrev pub name_held : List ℕ → Looked NameSlot → List ℕ
 name_held store (gives p) = name_in store p

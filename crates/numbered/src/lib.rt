@@ -7,82 +7,78 @@ ghost use Rattle.paper.specs.Rows.Numbers.{lookup_definition, category_name};
 ghost use Rattle.by_name.specs.Lookup.{FindsCategory};
 ghost use Rattle.numbered.specs.Numbers.{definition, name, name_held};
 
-use by_name::CategoryFound;
 use packed::Span;
 use paper::{NUMBER_UNKNOWN, Refusal, TABLES_APART};
 use table::{CATEGORY_BYTES, DEFINITION_BYTES, GROUP_AT, INVOKE_AT, NAME_LENGTH_AT};
 
-#[derive(Drop)]
+#[derive(Clone, Copy)]
 pub struct CategoryData {
     pub invoke: bool,
     pub group: bool,
     pub length: u32,
 }
 
-#[derive(Drop)]
-pub enum DefinitionFound {
-    Definition(CategoryData),
-    Refused(Refusal),
-}
-
-#[derive(Drop)]
-pub enum NameFound {
-    At(Span),
-    Refused(Refusal),
-}
-
 // Definition number `id`: 15 where there are no more than `id`, 26 where it runs past the table.
-pub fn lookup_definition(definitions: &[u8], count: usize, id: usize) -> DefinitionFound
+#[tactic(auto, unfolding(paper::specs::Rows::Numbers::lookup_definition))]
+pub fn lookup_definition(
+    definitions: &[u8],
+    count: usize,
+    id: usize,
+) -> Result<CategoryData, Refusal>
     ensures { result ≡ definition (lookup_definition definitions.now count id) }
 {
     if count <= id {
-        return DefinitionFound::Refused(Refusal {
+        return Err(Refusal {
             number: NUMBER_UNKNOWN,
             place: 0,
         });
     }
     if definitions.len() / DEFINITION_BYTES <= id {
-        return DefinitionFound::Refused(Refusal {
+        return Err(Refusal {
             number: TABLES_APART,
             place: 0,
         });
     }
     let at = DEFINITION_BYTES * id;
-    let invoke = definitions[at + INVOKE_AT] == 1;
-    let group = definitions[at + GROUP_AT] == 1;
-    DefinitionFound::Definition(CategoryData {
-        invoke,
-        group,
+    Ok(CategoryData {
+        invoke: definitions[at + INVOKE_AT] == 1,
+        group: definitions[at + GROUP_AT] == 1,
         length: table::get_u32(definitions, at),
     })
 }
 
 // Where the name of category `id` stands in the store: 15 where there are no more than `id`, 26 where its slot or the name runs past.
-pub fn locate_name(names: &[u8], categories: &[u8], count: usize, id: usize) -> NameFound
+#[tactic(auto, unfolding(paper::specs::Rows::Numbers::category_name))]
+pub fn locate_name(
+    names: &[u8],
+    categories: &[u8],
+    count: usize,
+    id: usize,
+) -> Result<Span, Refusal>
     ensures { result ≡ name (category_name names.now categories.now count id) }
 {
     if count <= id {
-        return NameFound::Refused(Refusal {
+        return Err(Refusal {
             number: NUMBER_UNKNOWN,
             place: 0,
         });
     }
     if categories.len() / CATEGORY_BYTES <= id {
-        return NameFound::Refused(Refusal {
+        return Err(Refusal {
             number: TABLES_APART,
             place: 0,
         });
     }
     let at = CATEGORY_BYTES * id;
-    let start = table::get_u16(categories, at) as usize;
-    let len = table::get_u16(categories, at + NAME_LENGTH_AT) as usize;
+    let start = usize::from(table::get_u16(categories, at));
+    let len = usize::from(table::get_u16(categories, at + NAME_LENGTH_AT));
     if names.len() < start + len {
-        return NameFound::Refused(Refusal {
+        return Err(Refusal {
             number: TABLES_APART,
             place: 0,
         });
     }
-    NameFound::At(Span { start, len })
+    Ok(Span { start, len })
 }
 
 // The name of category `id`, a part of the store; empty where `locate_name` refuses.
@@ -90,12 +86,8 @@ pub fn category_name<'a>(names: &'a [u8], categories: &[u8], count: usize, id: u
     ensures { result.now ≡ name_held names.now (category_name names.now categories.now count id) }
 {
     match locate_name(names, categories, count, id) {
-        NameFound::At(s) => {
-            let start = s.start;
-            let end = start + s.len;
-            &names[start..end]
-        }
-        NameFound::Refused(_) => &names[0..0],
+        Ok(Span { start, len }) => &names[start..start + len],
+        Err(_) => &names[0..0],
     }
 }
 
@@ -105,7 +97,7 @@ pub fn category_id_by_name(
     categories: &[u8],
     count: usize,
     name: &[u8],
-) -> CategoryFound
+) -> Result<Option<usize>, Refusal>
     ensures { FindsCategory names.now categories.now count name.now result }
 {
     by_name::find_category(names, categories, count, name)

@@ -4,19 +4,12 @@
 ghost use Rattle.std.specs.Prelude.{◌≡◌, set};
 ghost use Rattle.place.specs.Entered.{Entered};
 
-pub fn place32(t: &mut [u32], at: usize, v: u32)
+// An element of any type at a place; past the end nothing changes.
+pub fn place<T: Copy>(t: &mut [T], at: usize, v: T)
     ensures { t.new ≡ set t.old at v }
 {
     if at < t.len() {
         t[at] = v;
-    }
-}
-
-pub fn place16(t: &mut [u16], at: usize, n: u16)
-    ensures { t.new ≡ set t.old at n }
-{
-    if at < t.len() {
-        t[at] = n;
     }
 }
 
@@ -32,7 +25,7 @@ pub fn enter(
 )
     ensures { Entered i b start len boundaries.old boundaries.new starts.old starts.new lengths.old lengths.new }
 {
-    place32(boundaries, i, b);
-    place32(starts, i, start);
-    place16(lengths, i, len);
+    place(boundaries, i, b);
+    place(starts, i, start);
+    place(lengths, i, len);
 }

@@ -6,17 +6,5 @@ ghost use Rattle.row_room.specs.Room.{RoomIs};
 pub fn has_room(rows: usize, places: usize, b: usize, s: usize, l: usize, p: usize) -> bool
     ensures { RoomIs rows places b s l p result }
 {
-    if b < rows {
-        return false;
-    }
-    if s < rows {
-        return false;
-    }
-    if l < rows {
-        return false;
-    }
-    if p < places {
-        return false;
-    }
-    true
+    rows <= b && rows <= s && rows <= l && places <= p
 }

@@ -10,7 +10,6 @@ ghost use Rattle.cover.specs.Stamps.{Rowed};
 ghost use Rattle.cover.specs.Fallback.{fallback_row};
 ghost use Rattle.window.specs.Near.{no_boundary, is_far, Copied, Gathers, InWindow};
 
-use cover::Fallback;
 use table::{COUNT_AT, FIRST_AT, RANGE_BYTES, UPPER_AT};
 
 // How many code points a window has, and the bytes of the table of its slots.
@@ -18,54 +17,32 @@ const WINDOW: u32 = 1024;
 
 pub const NEAR_BYTES: usize = 1024;
 
-// Where a walk stands: at a boundary, in a window of code points from `from` up to `to`. The slots that have to do with the window are `many`, and
-// stand in a table of their own where that is `held`.
+// Where a walk stands: at a boundary, in a window of code points from `from` up to `to`. So many slots have to do with the window and stand in a
+// table of their own, unless there are more than have room.
 #[derive(Clone, Copy)]
 pub struct Window {
     pub at: u32,
     pub from: u32,
     pub to: u32,
-    pub many: usize,
-    pub held: bool,
-}
-
-// How many slots were gathered, unless there are more than have room.
-#[derive(Drop)]
-pub enum Gathered {
-    All(usize),
-    TooMany,
-}
-
-// A bound as a number to reckon with: the call asks only that it has 16 bits.
-fn wide(x: u16) -> u32
-    ensures { (result ≡ x) × (result < 65536) }
-{
-    x as u32
+    pub near: Option<usize>,
 }
 
 // Range i has nothing to do with the code points from `from` up to `to`.
+#[tactic(auto, unfolding(cover::specs::Slots::slot_got))]
 fn is_far(ranges: &[u8], i: usize, from: u32, to: u32) -> bool
     requires { i ≤ max_ranges }
     ensures { result ≡ is_far from to (slot_got i ranges.now) }
 {
-    let lower = wide(table::get_u16(ranges, RANGE_BYTES * i));
-    let upper = wide(table::get_u16(ranges, RANGE_BYTES * i + UPPER_AT));
+    let lower = u32::from(table::get_u16(ranges, RANGE_BYTES * i));
+    let upper = u32::from(table::get_u16(ranges, RANGE_BYTES * i + UPPER_AT));
     if to <= lower {
-        if to <= upper {
-            return true;
-        }
-        return false;
+        to <= upper
+    } else {
+        lower <= from && upper < from
     }
-    if from < lower {
-        return false;
-    }
-    if upper < from {
-        return true;
-    }
-    false
 }
 
-// Slot n of one table becomes slot i of another.
+// Slot i of one table becomes slot n of another. Field by field and not by `copy_from_slice`, since past the end of the first a field is 0.
 fn copy_slot(ranges: &[u8], i: usize, near: &mut [u8], n: usize)
     requires i_le_max_ranges { i ≤ max_ranges }
     requires range_slot_size_in_bounds { range_slot_size * n + range_slot_size ≤ length near.old }
@@ -84,26 +61,22 @@ fn copy_slot(ranges: &[u8], i: usize, near: &mut [u8], n: usize)
 }
 
 // The slots that have to do with the code points from `from` up to `to`, into a table of their own.
-fn gather(ranges: &[u8], count: usize, from: u32, to: u32, near: &mut [u8]) -> Gathered
+fn gather(ranges: &[u8], count: usize, from: u32, to: u32, near: &mut [u8]) -> Option<usize>
     requires { count ≤ max_ranges }
     ensures { Gathers ranges.now near.new count from to result }
 {
-    table::zero(near, near.len());
+    near.fill(0);
     let mut n = 0;
-    let mut i = 0;
-    while i < count {
-        if is_far(ranges, i, from, to) {
-            i += 1;
-        } else {
+    for i in 0..count {
+        if !is_far(ranges, i, from, to) {
             if near.len() - RANGE_BYTES * n < RANGE_BYTES {
-                return Gathered::TooMany;
+                return None;
             }
             copy_slot(ranges, i, near, n);
             n += 1;
-            i += 1;
         }
     }
-    Gathered::All(n)
+    Some(n)
 }
 
 // The window that begins at a boundary.
@@ -112,21 +85,11 @@ pub fn open_window(ranges: &[u8], count: usize, b: u32, near: &mut [u8]) -> Wind
     ensures { (result.at ≡ b) × InWindow ranges.now near.new count result }
 {
     let to = b + WINDOW;
-    match gather(ranges, count, b, to, near) {
-        Gathered::All(n) => Window {
-            at: b,
-            from: b,
-            to: to,
-            many: n,
-            held: true,
-        },
-        Gathered::TooMany => Window {
-            at: b,
-            from: b,
-            to: to,
-            many: 0,
-            held: false,
-        },
+    Window {
+        at: b,
+        from: b,
+        to,
+        near: gather(ranges, count, b, to, near),
     }
 }
 
@@ -137,7 +100,7 @@ pub fn covering_near(
     count: usize,
     near: &[u8],
     w: Window,
-    fallback: Fallback,
+    fallback: Option<u16>,
     seen: &mut [u32],
     stamp: u32,
     out: &mut [u16],
@@ -148,8 +111,8 @@ pub fn covering_near(
     ensures { Rowed stamp (covers_got w.at (slots_got 0 count ranges.now) references.now) (fallback_row fallback) seen.old seen.new out.old out.new at result }
 {
     let b = w.at;
-    if w.held {
-        return cover::covering(near, references, w.many, fallback, b, seen, stamp, out, at);
+    match w.near {
+        Some(many) => cover::covering(near, references, many, fallback, b, seen, stamp, out, at),
+        None => cover::covering(ranges, references, count, fallback, b, seen, stamp, out, at),
     }
-    cover::covering(ranges, references, count, fallback, b, seen, stamp, out, at)
 }

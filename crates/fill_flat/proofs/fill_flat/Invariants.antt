@@ -1,8 +1,6 @@
 -- `fill_flat::fill_flat` meets its contract: each turn of the walk fills one row and the entries up to the next boundary. The walk stays in a window.
 -- Assumes nothing.
 use Prim.Native.Nat.{◌≤◌, ◌-◌}
-use mathlib.Core.Path.{◌≡◌}
-use lib.ListN.{length}
 use Rattle.paper.specs.Sizes.{max_row_places}
 use Rattle.window.specs.Near.{no_boundary, InWindow}
 use Rattle.cover.specs.Slots.{slots_got}
@@ -13,10 +11,10 @@ use Rattle.fill_flat.proofs.fill_flat.Given as goal
 
 abbrev pub invariant-loop-w : goal.invariant-loop-w
 invariant-loop-w l =
-    (Filling (row_of (fallback_row l.fallback) (slots_got 0 l.count l.ranges) l.references) (boundaries_of (slots_got 0 l.count l.ranges)) l.initial.seen
+    (Filling (row_of (fallback_row l.fallback) (slots_got 0 l.count l.ranges) l.references) (boundaries_of (slots_got 0 l.count l.ranges))
     (record { index = l.initial.index; pool = l.initial.pool }) l.seen (record { index = l.index; pool = l.pool }) l.w.at l.rows l.at
     × (l.at ≤ max_row_places))
-    × (InWindow l.ranges l.near l.count l.w × (length l.near ≡ length l.initial.near))
+    × InWindow l.ranges l.near l.count l.w
 
 abbrev pub decreases-loop-w : goal.decreases-loop-w
 decreases-loop-w l = no_boundary - l.w.at

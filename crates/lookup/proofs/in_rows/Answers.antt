@@ -7,5 +7,4 @@ pub returns-then-not-begins_at_zero : goal.returns-then-not-begins_at_zero
 returns-then-not-begins_at_zero c = rows_none _ _ _ _ _ _ c.begins_at_zero.ensures (search rules)
 
 pub returns : goal.returns
-returns c =
-    rows_some _ _ _ _ _ _ c.begins_at_zero.ensures (search rules) _ c.eval.ensures _ c.of_row.ensures
+returns c = rows_some _ _ _ _ _ _ c.begins_at_zero.ensures (search rules) _ c.eval.ensures _ c.of_row.ensures
