@@ -23,7 +23,7 @@ use Rattle.paper.specs.Rows.Build.{built, refused_by, places_needed, row_overlon
 use Rattle.paper.specs.Rows.Lookup.{FlatLeft}
 use Rattle.paper.specs.Rows.Numbers.{find_name}
 use Rattle.paper.specs.Tables.Layout.{Tables}
-use Rattle.paper.specs.Tables.HandedIn.{HoldTogether, OfBytes}
+use Rattle.paper.specs.Tables.HandedIn.{HoldTogether}
 use Rattle.paper.specs.Computed.HandedIn.{decoded, holds, handed_in}
 use Rattle.paper.specs.declared.Counts.{Counts}
 use Rattle.paper.proofs.Apart.{zero_one, none_some}
@@ -31,7 +31,7 @@ use Rattle.paper.proofs.Lists.Facts.{T→true, false→T, joined_length}
 use Rattle.paper.proofs.Rows.Search.{row_found}
 use Rattle.paper.proofs.Rows.Sizes.{places_fit}
 use Rattle.paper.proofs.Rows.Flat.{index_length, index_at}
-use Rattle.paper.proofs.Tables.Trip.{handed_holds}
+use Rattle.paper.proofs.Tables.Trip.{handed_fits}
 use Rattle.row.specs.Built.{ahead}
 use Rattle.cover.specs.Slots.{slots_got}
 use Rattle.fallback.specs.Fallback.{found_row}
@@ -45,8 +45,8 @@ use Rattle.flat_room.specs.Room.{refusal}
 use Rattle.flat_room.proofs.Room.{Fits, fits}
 use Rattle.flat.specs.Built.{answer_to, given, filled, leaves, BuildsFlat}
 use Rattle.flat.specs.Made.{Builds, BuildsOf}
-use Rattle.flat.specs.declared.Built.{Built}
-use Rattle.flat.specs.declared.Built.TheVariants.{Flat, Refused}
+use Rattle.std.specs.Prelude.{Err, None, Ok, Option, Result, Some}
+use Rattle.paper.specs.declared.Refusal.{Refusal}
 
 -- ---- the index and the pool
 
@@ -92,40 +92,37 @@ module _ (bs : List ℕ) (ws : List (List ℕ)) (lent : FlatRoom) (n : Need) (is
     unfolding flat_built
     answer_is o s e f = ap₂ (λ x y. cond x (refused_by flat_row_long) (cond y (refused_by table_room_short) built)) e f
 
-    refused_by_lem : (k : ℕ) → answer_to (some r) lent ≡ refused_by k → Builds r lent lent (Refused (record { number = k; place = 0 }))
+    refused_by_lem : (k : ℕ) → answer_to (some r) lent ≡ refused_by k → Builds r lent lent (Err (record { number = k; place = 0 }))
     refused_by_lem k e = record { answer = ap (given r) (sym e); memory = ap (λ a. leaves r a lent) (sym e) }
 
     room_is : flat_room_short r (length lent.index) (length lent.pool) ≡ (ltb (length lent.index) bmp_size || ltb (length lent.pool) n.places)
     unfolding flat_room_short
     room_is = ap (λ k. ltb (length lent.index) bmp_size || ltb (length lent.pool) k) (sym places_are)
 
-  module _ (number : ℕ) (e : number ≡ refusal n.longest n.places (length lent.index) (length lent.pool)) where
-    pub flat_refused : 0 < number → BuildsOf bs ws lent lent (Refused (record { number = number; place = 0 }))
+  module _ (o : Option ℕ) (e : o ≡ refusal n.longest n.places (length lent.index) (length lent.pool)) where
+    pub flat_refused : (number : ℕ) → o ≡ Some number → BuildsOf bs ws lent lent (Err (record { number = number; place = 0 }))
     unfolding refusal
-    flat_refused h r eb ew =
+    flat_refused number h r eb ew =
         refused_by_lem r eb ew number
         (answer_is r eb ew _ _ (overlong_is r eb ew) (room_is r eb ew)
-        ∙ go (ltb max_flat_row n.longest) (ltb (length lent.index) bmp_size || ltb (length lent.pool) n.places) e)
+        ∙ go (ltb max_flat_row n.longest) (ltb (length lent.index) bmp_size || ltb (length lent.pool) n.places) (sym h ∙ e))
       where
-        never : number ≡ 0 → ⊥
-        never z = omega arith
-
-        go : (o s : Bool) → number ≡ cond o flat_row_long (cond s table_room_short 0)
+        go : (o s : Bool) → Some number ≡ cond o (Some flat_row_long) (cond s (Some table_room_short) None)
             → cond o (refused_by flat_row_long) (cond s (refused_by table_room_short) built) ≡ refused_by number
-        go true s f = ap refused_by (sym f)
-        go false true f = ap refused_by (sym f)
-        go false false f = absurd (never f)
+        go true s f = cc
+        go false true f = cc
+        go false false f = cc
 
-    module _ (z : number ≤ 0) where
+    module _ (z : o ≡ None) where
       room : Fits n.longest n.places (length lent.index) (length lent.pool)
-      room = fits _ _ _ _ number e (omega arith)
+      room = fits _ _ _ _ (sym e ∙ z)
 
       pub whole_index : bmp_size ≤ length lent.index
       whole_index = room.whole
 
       pub flat_made : (m : ℕ) → m ≡ bmp_size → (index pool : List ℕ)
           → FlatFilled bs ws (record { index = take m lent.index; pool = lent.pool }) (record { index = index; pool = pool })
-          → BuildsOf bs ws lent (record { index = index ++ drop m lent.index; pool = pool }) (Flat n.places)
+          → BuildsOf bs ws lent (record { index = index ++ drop m lent.index; pool = pool }) (Ok n.places)
       flat_made m whole index pool f r eb ew =
           let e : answer_to (some r) lent ≡ built =
           answer_is r eb ew false false (overlong_is r eb ew ∙ le-ltb max_flat_row n.longest room.short)
@@ -135,7 +132,7 @@ module _ (bs : List ℕ) (ws : List (List ℕ)) (lent : FlatRoom) (n : Need) (is
           subst (λ w. FlatFilled (boundaries r) w (record { index = take m lent.index; pool = lent.pool }) (record { index = index; pool = pool })) ew
           (subst (λ b. FlatFilled b ws (record { index = take m lent.index; pool = lent.pool }) (record { index = index; pool = pool })) eb f) in
           record {
-            answer = ap Flat (places_are r eb ew) ∙ ap (given r) (sym e);
+            answer = ap Ok (places_are r eb ew) ∙ ap (given r) (sym e);
             memory =
                 filled_so r lent m whole (omega (arith, room.whole)) index pool g (omega (arith, room.enough, places_are r eb ew))
                 ∙ ap (λ a. leaves r a lent) (sym e);
@@ -143,23 +140,8 @@ module _ (bs : List ℕ) (ws : List (List ℕ)) (lent : FlatRoom) (n : Need) (is
 
 -- ---- over tables handed in
 
-all_bytes : (l : List ℕ) → ((i : ℕ) → get_or l i 0 < 256) → T (all is_byte l)
-all_bytes [] h = tt
-all_bytes (x ∷ l) h = yes_and (is_byte x) (all is_byte l) (yes_ltb (h 0)) (all_bytes l (λ i. h (suc i)))
-
--- what lent bytes are
-pub of_bytes : (t : Tables) → ((i : ℕ) → get_or t.categories i 0 < 256) → ((i : ℕ) → get_or t.definitions i 0 < 256)
-    → ((i : ℕ) → get_or t.ranges i 0 < 256) → ((i : ℕ) → get_or t.references i 0 < 256) → OfBytes t
-of_bytes t a b c d =
-    record {
-      in_categories = all_bytes t.categories a;
-      in_definitions = all_bytes t.definitions b;
-      in_ranges = all_bytes t.ranges c;
-      in_references = all_bytes t.references d;
-    }
-
 module _ (t : Tables) (n : Counts) where
-  pub builds_apart : (lent : FlatRoom) → holds t n ≡ false → BuildsFlat t n lent lent (Refused (record { number = tables_apart; place = 0 }))
+  pub builds_apart : (lent : FlatRoom) → holds t n ≡ false → BuildsFlat t n lent lent (Err (record { number = tables_apart; place = 0 }))
   unfolding handed_in flat_built
   builds_apart lent e = record { answer = rw e; memory = rw e }
 
@@ -168,17 +150,17 @@ module _ (t : Tables) (n : Counts) where
     rows_are = ap (λ d. rows_of d (slots_got 0 n.ranges t.ranges) t.references) (e ∙ fallback_met t n h) ∙ rows_met t n h
 
     -- "the 24-bit offset never overflows"
-    pub buildable : OfBytes t → length ds ≤ 1 → Buildable t.ranges t.references n.ranges ds
-    buildable b one =
-        let k : HoldTogether t n (decoded t n) = handed_holds t n b h in
-        let f = places_fit (decoded t n) k.rules.limits k.rules.known in
+    pub buildable : length ds ≤ 1 → Buildable t.ranges t.references n.ranges ds
+    buildable one =
+        let k = handed_fits t n h in
+        let f = places_fit (decoded t n) k.0 k.1 in
         record {
           readable = readable t n h;
           one = one;
           offsets_fit = rw (rows_are, joined_length (rows (decoded t n))) f;
         }
 
-    pub builds_flat : (lent after : FlatRoom) (a : Built)
+    pub builds_flat : (lent after : FlatRoom) (a : Result ℕ Refusal)
         → BuildsOf (boundaries_of (slots_got 0 n.ranges t.ranges)) (rows_of ds (slots_got 0 n.ranges t.ranges) t.references) lent after a
         → BuildsFlat t n lent after a
     unfolding handed_in
@@ -192,14 +174,14 @@ module _ (t : Tables) (n : Counts) where
 
 -- ---- NOTHING IS LEFT OPEN: two outcomes that the promise allows coincide, in the answer and in the memory
 
-pub built_one : {t : Tables} {n : Counts} {lent a b : FlatRoom} {r s : Built} → BuildsFlat t n lent a r → BuildsFlat t n lent b s → (r ≡ s) × (a ≡ b)
+pub built_one : {t : Tables} {n : Counts} {lent a b : FlatRoom} {r s : Result ℕ Refusal} → BuildsFlat t n lent a r → BuildsFlat t n lent b s → (r ≡ s) × (a ≡ b)
 built_one p q = (p.answer ∙ sym q.answer, p.memory ∙ sym q.memory)
 
 -- ---- the answers
 
-module _ {t : Tables} {n : Counts} {lent after : FlatRoom} {a : Built} (p : BuildsFlat t n lent after a) where
+module _ {t : Tables} {n : Counts} {lent after : FlatRoom} {a : Result ℕ Refusal} (p : BuildsFlat t n lent after a) where
   -- 26 exactly where no reading is handed in, and nothing is changed
-  pub apart_given : handed_in t n ≡ none → (a ≡ Refused (record { number = tables_apart; place = 0 })) × (after ≡ lent)
+  pub apart_given : handed_in t n ≡ none → (a ≡ Err (record { number = tables_apart; place = 0 })) × (after ≡ lent)
   unfolding flat_built
   apart_given e = (p.answer ∙ rw e, p.memory ∙ rw e)
 
@@ -218,21 +200,21 @@ module _ {t : Tables} {n : Counts} {lent after : FlatRoom} {a : Built} (p : Buil
     answer_so o s f g =
         ap (λ x. answer_to x lent) e ∙ ap₂ (λ x y. cond x (refused_by flat_row_long) (cond y (refused_by table_room_short) built)) f g
 
-    kept : (k : ℕ) → answer_to (handed_in t n) lent ≡ refused_by k → (a ≡ Refused (record { number = k; place = 0 })) × (after ≡ lent)
+    kept : (k : ℕ) → answer_to (handed_in t n) lent ≡ refused_by k → (a ≡ Err (record { number = k; place = 0 })) × (after ≡ lent)
     kept k q = (p.answer ∙ ap (given (decoded t n)) q, p.memory ∙ ap (λ b. leaves (decoded t n) b lent) q)
 
     -- 16 where a row has over 255 categories, and nothing is changed
-    pub overlong_given : row_overlong r ≡ true → (a ≡ Refused (record { number = flat_row_long; place = 0 })) × (after ≡ lent)
+    pub overlong_given : row_overlong r ≡ true → (a ≡ Err (record { number = flat_row_long; place = 0 })) × (after ≡ lent)
     overlong_given o = kept flat_row_long (answer_so true _ o refl)
 
     -- otherwise 17 where a slice is below the exact need, and nothing is changed
     pub short_given : row_overlong r ≡ false → flat_room_short r (length lent.index) (length lent.pool) ≡ true
-        → (a ≡ Refused (record { number = table_room_short; place = 0 })) × (after ≡ lent)
+        → (a ≡ Err (record { number = table_room_short; place = 0 })) × (after ≡ lent)
     short_given o s = kept table_room_short (answer_so false true o s)
 
     -- otherwise the reading's flat table
     pub flat_given : row_overlong r ≡ false → flat_room_short r (length lent.index) (length lent.pool) ≡ false
-        → (a ≡ Flat (places_needed r)) × (after ≡ filled r lent)
+        → (a ≡ Ok (places_needed r)) × (after ≡ filled r lent)
     flat_given o s =
         let q : answer_to (handed_in t n) lent ≡ built = answer_so false false o s in
         (p.answer ∙ ap₂ given read_so q, p.memory ∙ ap₂ (λ x b. leaves x b lent) read_so q)
@@ -252,7 +234,7 @@ left_filled r lent x bs ss ls pool f o =
       pool_is = ap (λ y. take (length (flat_pool r)) y.pool) f ∙ starts_ahead (flat_pool r) lent.pool;
     }
 
-pub flat_left : {t : Tables} {n : Counts} {lent after : FlatRoom} {k : ℕ} → BuildsFlat t n lent after (Flat k)
+pub flat_left : {t : Tables} {n : Counts} {lent after : FlatRoom} {k : ℕ} → BuildsFlat t n lent after (Ok k)
     → (r : Reading) → handed_in t n ≡ some r → (boundaries starts lengths pool : List ℕ)
     → FlatLeft r (record { index = take bmp_size after.index; flat = after.pool; boundaries = boundaries; starts = starts; lengths = lengths; pool = pool })
 flat_left {t} {n} {lent} {after} {k} p r e bs ss ls pool = go (row_overlong r) refl (flat_room_short r (length lent.index) (length lent.pool)) refl

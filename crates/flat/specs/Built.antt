@@ -1,7 +1,7 @@
 -- What `build_flat_table` promises: its answer, and what the two lent slices hold afterwards, in refusals too. Both follow from the tables handed
 -- in and from what was lent: `flat_built` is the paper's answer, `given` the enum's case for it, `leaves` the memory that it leaves.
 -- Assumes nothing.
-use Rattle.std.specs.Prelude.{◌≡◌, length}
+use Rattle.std.specs.Prelude.{◌≡◌, ℕ, length, Result, Ok, Err}
 use Rattle.std.proofs.Math.Option.{Option}
 use Rattle.paper.specs.CharDef.Reading.{Reading}
 use Rattle.paper.specs.Rows.Flat.{flat_index, flat_pool}
@@ -12,8 +12,7 @@ use Rattle.paper.specs.Computed.HandedIn.{decoded, handed_in}
 use Rattle.paper.specs.declared.Counts.{Counts}
 use Rattle.row.specs.Built.{ahead}
 use Rattle.fill_flat.specs.Walked.{FlatRoom}
-use Rattle.flat.specs.declared.Built.{Built}
-use Rattle.flat.specs.declared.Built.TheVariants.{Flat, Refused}
+use Rattle.paper.specs.declared.Refusal.{Refusal}
 
 -- ---- the answer
 
@@ -22,9 +21,9 @@ abbrev pub answer_to : Option Reading → FlatRoom → answer.Built
 answer_to r lent = flat_built r (length lent.index) (length lent.pool)
 
 -- the case of the enum for each answer of the paper: how many pool places were filled, or the number of the refusal, at place 0
-abbrev pub given : Reading → answer.Built → Built
-given r built = Flat (places_needed r)
-given r (refused_by number) = Refused (record { number = number; place = 0 })
+abbrev pub given : Reading → answer.Built → Result ℕ Refusal
+given r built = Ok (places_needed r)
+given r (refused_by number) = Err (record { number = number; place = 0 })
 
 -- ---- lent memory afterwards
 
@@ -39,6 +38,6 @@ leaves r (refused_by number) lent = lent
 
 -- ---- both together: `decoded` is the reading of tables that hold together
 
-pub record BuildsFlat (t : Tables) (n : Counts) (lent after : FlatRoom) (a : Built) : Type 0 where
+pub record BuildsFlat (t : Tables) (n : Counts) (lent after : FlatRoom) (a : Result ℕ Refusal) : Type 0 where
   pub answer : a ≡ given (decoded t n) (answer_to (handed_in t n) lent)
   pub memory : after ≡ leaves (decoded t n) (answer_to (handed_in t n) lent) lent

@@ -5,13 +5,14 @@ use Rattle.std.proofs.Math.Option.{some}
 use Rattle.paper.specs.CharDef.Reading.{Reading}
 use Rattle.paper.specs.Rows.Covering.{boundaries, rows}
 use Rattle.fill_flat.specs.Walked.{FlatRoom}
-use Rattle.flat.specs.declared.Built.{Built}
 use Rattle.flat.specs.Built.{answer_to, given, leaves}
+use Rattle.std.specs.Prelude.{Result}
+use Rattle.paper.specs.declared.Refusal.{Refusal}
 
 -- refused or built, by every reading that has these boundaries and rows
-pub record Builds (r : Reading) (lent after : FlatRoom) (a : Built) : Type 0 where
+pub record Builds (r : Reading) (lent after : FlatRoom) (a : Result ℕ Refusal) : Type 0 where
   pub answer : a ≡ given r (answer_to (some r) lent)
   pub memory : after ≡ leaves r (answer_to (some r) lent) lent
 
-abbrev pub BuildsOf : List ℕ → List (List ℕ) → FlatRoom → FlatRoom → Built → Type 0
+abbrev pub BuildsOf : List ℕ → List (List ℕ) → FlatRoom → FlatRoom → Result ℕ Refusal → Type 0
 BuildsOf bs ws lent after a = (r : Reading) → bs ≡ boundaries r → ws ≡ rows r → Builds r lent after a

@@ -6,15 +6,13 @@ ghost use Rattle.std.specs.Prelude.{◌≡◌};
 ghost use Rattle.paper.specs.Computed.ReadPack.{read_pack};
 ghost use Rattle.paper.specs.Tables.Layout.{in_room};
 ghost use Rattle.paper.specs.Tables.Reader.{Reads};
-ghost use Rattle.room.specs.Sized.{Sized, no_tables, ReadInto};
-ghost use Rattle.pack.specs.Whole.{Fill};
+ghost use Rattle.room.specs.Sized.{Sized, no_tables, FilledInto, ReadInto};
 
 use field::BitCursor;
 use pack_body::read_body;
-use pack_field::CountRead;
-use pack_head::{HeadRead, read_head};
+use pack_head::read_head;
 use pack_padding::is_padding;
-use paper::{Counts, MAX_NAME_BYTES, Outcome, PACK_LEFT_OVER, ROOM_SHORT, Refusal};
+use paper::{Counts, MAX_NAME_BYTES, PACK_LEFT_OVER, ROOM_SHORT, Refusal};
 use room::{CATEGORIES_SIZE, DEFINITIONS_SIZE, RANGES_SIZE, REFERENCES_SIZE};
 
 // The pack read into tables of the sizes that hold zero.
@@ -25,42 +23,34 @@ fn fill_tables(
     definitions: &mut [u8],
     ranges: &mut [u8],
     references: &mut [u8],
-) -> Outcome
+) -> Result<Counts, Refusal>
     requires { record { names = names.old; categories = categories.old; definitions = definitions.old; ranges = ranges.old; references = references.old } ≡ in_room no_tables }
-    ensures { Fill (read_pack pack.now) (record { names = names.new; categories = categories.new; definitions = definitions.new; ranges = ranges.new; references = references.new }) result }
+    ensures { FilledInto (read_pack pack.now) (record { names = names.new; categories = categories.new; definitions = definitions.new; ranges = ranges.new; references = references.new }) result }
 {
-    match read_head(pack, BitCursor { at: 0 }) {
-        HeadRead::Refused(r) => Outcome::Refused(r),
-        HeadRead::Read(head, behind) => {
-            match read_body(
-                pack,
-                behind,
-                head,
-                names,
-                categories,
-                definitions,
-                ranges,
-                references,
-            ) {
-                CountRead::Refused(r) => Outcome::Refused(r),
-                CountRead::Read(bytes, end) => {
-                    if !is_padding(pack, end) {
-                        return Outcome::Refused(Refusal {
-                            number: PACK_LEFT_OVER,
-                            place: end.at,
-                        });
-                    }
-                    Outcome::Accepted(Counts {
-                        categories: head.categories,
-                        definitions: head.lines,
-                        ranges: head.ranges,
-                        references: head.references,
-                        bytes,
-                    })
-                }
-            }
-        }
+    let (head, behind) = read_head(pack, BitCursor { at: 0 })?;
+    let (bytes, end) = read_body(
+        pack,
+        behind,
+        head,
+        names,
+        categories,
+        definitions,
+        ranges,
+        references,
+    )?;
+    if !is_padding(pack, end) {
+        return Err(Refusal {
+            number: PACK_LEFT_OVER,
+            place: end.at,
+        });
     }
+    Ok(Counts {
+        categories: head.categories,
+        definitions: head.lines,
+        ranges: head.ranges,
+        references: head.references,
+        bytes,
+    })
 }
 
 // The pack read into tables of the sizes: the reading's tables, or zero where the pack is refused.
@@ -71,18 +61,16 @@ fn read_into(
     definitions: &mut [u8],
     ranges: &mut [u8],
     references: &mut [u8],
-) -> Outcome
+) -> Result<Counts, Refusal>
     requires { Sized (record { names = names.old; categories = categories.old; definitions = definitions.old; ranges = ranges.old; references = references.old }) }
     ensures { ReadInto (read_pack pack.now) (record { names = names.new; categories = categories.new; definitions = definitions.new; ranges = ranges.new; references = references.new }) result }
 {
     room::zero_all(names, categories, definitions, ranges, references);
-    match fill_tables(pack, names, categories, definitions, ranges, references) {
-        Outcome::Accepted(counts) => Outcome::Accepted(counts),
-        Outcome::Refused(refusal) => {
-            room::zero_all(names, categories, definitions, ranges, references);
-            Outcome::Refused(refusal)
-        }
+    let read = fill_tables(pack, names, categories, definitions, ranges, references);
+    if read.is_err() {
+        room::zero_all(names, categories, definitions, ranges, references);
     }
+    read
 }
 
 // Reads a pack into lent tables: 1, then 18 to 21 by the first broken field in reading order. Nothing is written for 1; 18 to 21 leave zero
@@ -94,7 +82,7 @@ pub fn read_pack(
     definitions: &mut [u8],
     ranges: &mut [u8],
     references: &mut [u8],
-) -> Outcome
+) -> Result<Counts, Refusal>
     ensures { Reads (read_pack pack.now) (record { names = names.old; categories = categories.old; definitions = definitions.old; ranges = ranges.old; references = references.old }) (record { names = names.new; categories = categories.new; definitions = definitions.new; ranges = ranges.new; references = references.new }) result }
 {
     if !room::has_room(
@@ -104,7 +92,7 @@ pub fn read_pack(
         ranges.len(),
         references.len(),
     ) {
-        return Outcome::Refused(Refusal {
+        return Err(Refusal {
             number: ROOM_SHORT,
             place: 0,
         });

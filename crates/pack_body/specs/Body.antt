@@ -10,12 +10,11 @@ use Rattle.paper.specs.Tables.Layout.{Tables, layout, in_room, counts_of, defini
 use Rattle.paper.specs.Tables.Lent.{padded}
 use Rattle.field.specs.Cursor.{rest}
 use Rattle.pack_head.specs.declared.Head.{Head}
-use Rattle.pack_field.specs.declared.PartRead.{PartRead}
-use Rattle.pack_field.specs.declared.PartRead.TheVariants as part
-use Rattle.pack_field.specs.declared.CountRead.{CountRead}
-use Rattle.pack_field.specs.declared.CountRead.TheVariants as count
 use Rattle.pack_field.specs.Parts.{max_place}
 use Rattle.pack_ranges.specs.Ranges.{Two, Ranged}
+use Rattle.std.specs.Prelude.{Err, Ok, Result}
+use Rattle.field.specs.declared.BitCursor.{BitCursor}
+use Rattle.paper.specs.declared.Refusal.{Refusal}
 
 -- ---- behind the names
 
@@ -51,9 +50,9 @@ pub record TailIn (p : List ℕ) (at : ℕ) (h : Head) (in_definitions : List �
   pub defined : in_definitions ≡ padded (definition_size * max_category_lines) (joined (map definition_bytes definitions))
   pub ranged : Ranged ranges t
 
-abbrev pub TailIs : List ℕ → ℕ → Head → List ℕ → Two → PartRead → Type 0
-TailIs p at h in_definitions t (part.Read c) = TailIn p at h in_definitions t c.at
-TailIs p at h in_definitions t (part.Refused r) = (names : List (List ℕ)) → read_tail h names at (rest p at) ≡ broke r.number r.place
+abbrev pub TailIs : List ℕ → ℕ → Head → List ℕ → Two → Result BitCursor Refusal → Type 0
+TailIs p at h in_definitions t (Ok c) = TailIn p at h in_definitions t c.at
+TailIs p at h in_definitions t (Err r) = (names : List (List ℕ)) → read_tail h names at (rest p at) ≡ broke r.number r.place
 
 -- ---- behind the head
 
@@ -64,6 +63,6 @@ pub record BodyIn (p : List ℕ) (at : ℕ) (h : Head) (t : Tables) (bytes next 
   pub counts : record { categories = h.categories; definitions = h.lines; ranges = h.ranges; references = h.references; bytes = bytes } ≡ counts_of reading
   pub tables : t ≡ in_room (layout reading)
 
-abbrev pub BodyIs : List ℕ → ℕ → Head → Tables → CountRead → Type 0
-BodyIs p at h t (count.Read bytes c) = BodyIn p at h t bytes c.at
-BodyIs p at h t (count.Refused r) = read_body h.categories h.lines h.ranges h.references at (rest p at) ≡ broke r.number r.place
+abbrev pub BodyIs : List ℕ → ℕ → Head → Tables → Result (ℕ × BitCursor) Refusal → Type 0
+BodyIs p at h t (Ok (bytes, c)) = BodyIn p at h t bytes c.at
+BodyIs p at h t (Err r) = read_body h.categories h.lines h.ranges h.references at (rest p at) ≡ broke r.number r.place

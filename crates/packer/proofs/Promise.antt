@@ -29,38 +29,37 @@ use Rattle.paper.proofs.Pack.Size.{pack_length_lem}
 use Rattle.paper.proofs.Pack.Trip.{write_read, read_write}
 use Rattle.paper.proofs.Tables.Holds.{stands_handed, handed_one}
 use Rattle.paper.proofs.Tables.Trip.{handed_back}
-use Rattle.packer.specs.declared.Written.{Written}
-use Rattle.packer.specs.declared.Written.TheVariants.{Length, Refused}
 use Rattle.packer.specs.Write.{pack_of, given, leaves, WritesPack}
 use Rattle.packer.proofs.Answer.{room_is}
+use Rattle.std.specs.Prelude.{Err, Ok, Result}
 
 -- ---- NOTHING IS LEFT OPEN: two outcomes that the promise allows coincide, in the answer and in the memory
 
-pub writes_one : {t : Tables} {n : Counts} {lent a b : List ℕ} {r s : Written} → WritesPack t n lent a r → WritesPack t n lent b s → (r ≡ s) × (a ≡ b)
+pub writes_one : {t : Tables} {n : Counts} {lent a b : List ℕ} {r s : Result ℕ Refusal} → WritesPack t n lent a r → WritesPack t n lent b s → (r ≡ s) × (a ≡ b)
 writes_one p q = (p.answer ∙ sym q.answer, p.memory ∙ sym q.memory)
 
 -- ---- where a reading stands in the tables
 
 -- 22 at place 0
-abbrev pub room_refused : Written
-room_refused = Refused (record { number = pack_room_short; place = 0 })
+abbrev pub room_refused : Result ℕ Refusal
+room_refused = Err (record { number = pack_room_short; place = 0 })
 
 -- 26 at place 0
-abbrev pub apart_refused : Written
-apart_refused = Refused (record { number = tables_apart; place = 0 })
+abbrev pub apart_refused : Result ℕ Refusal
+apart_refused = Err (record { number = tables_apart; place = 0 })
 
-by_case : {t : Tables} {n : Counts} {lent after : List ℕ} {r : Written} → WritesPack t n lent after r → (o : Option Reading) (b : Built) → handed_in t n ≡ o
+by_case : {t : Tables} {n : Counts} {lent after : List ℕ} {r : Result ℕ Refusal} → WritesPack t n lent after r → (o : Option Reading) (b : Built) → handed_in t n ≡ o
     → pack_written o (length lent) ≡ b → (r ≡ given b (pack_of o)) × (after ≡ leaves b (pack_of o) lent)
 by_case {t} {n} {lent} p o b eo eb =
     let e : pack_written (handed_in t n) (length lent) ≡ b = ap (λ x. pack_written x (length lent)) eo ∙ eb in
     (p.answer ∙ rw (e, eo), p.memory ∙ rw (e, eo))
 
-module _ {t : Tables} {n : Counts} {lent after : List ℕ} {r : Written} (p : WritesPack t n lent after r) (q : Reading) (h : HoldTogether t n q) where
+module _ {t : Tables} {n : Counts} {lent after : List ℕ} {r : Result ℕ Refusal} (p : WritesPack t n lent after r) (q : Reading) (h : HoldTogether t n q) where
   handed : handed_in t n ≡ some q
   handed = stands_handed t n q h
 
   -- the room is long enough: the pack's length, the pack's bytes, and what lies behind them as it was
-  pub room_enough : length (pack_bytes q) ≤ length lent → (r ≡ Length (length (pack_bytes q))) × (after ≡ pack_bytes q ++ drop (length (pack_bytes q)) lent)
+  pub room_enough : length (pack_bytes q) ≤ length lent → (r ≡ Ok (length (pack_bytes q))) × (after ≡ pack_bytes q ++ drop (length (pack_bytes q)) lent)
   room_enough k = by_case p (some q) built handed (room_is q (length lent) false (le-ltb (length lent) (length (pack_bytes q)) k))
 
   -- it is not: 22, and nothing is changed
@@ -68,22 +67,22 @@ module _ {t : Tables} {n : Counts} {lent after : List ℕ} {r : Written} (p : Wr
   room_short_lem k = by_case p (some q) (refused_by pack_room_short) handed (room_is q (length lent) true (lt-ltb (length lent) (length (pack_bytes q)) k))
 
   -- "No pack exceeds 40,519 bytes": in such a room every pack is written
-  pub always_written : max_pack_bytes ≤ length lent → r ≡ Length (length (pack_bytes q))
+  pub always_written : max_pack_bytes ≤ length lent → r ≡ Ok (length (pack_bytes q))
   always_written k = let m : length (pack_bytes q) ≤ max_pack_bytes = pack_length_lem q h.rules.limits in (room_enough (omega arith)).0
 
 -- none stands in them: 26, and nothing is changed
-pub none_stands : {t : Tables} {n : Counts} {lent after : List ℕ} {r : Written} → WritesPack t n lent after r → handed_in t n ≡ none → (r ≡ apart_refused) × (after ≡ lent)
+pub none_stands : {t : Tables} {n : Counts} {lent after : List ℕ} {r : Result ℕ Refusal} → WritesPack t n lent after r → handed_in t n ≡ none → (r ≡ apart_refused) × (after ≡ lent)
 unfolding pack_written
 none_stands p e = by_case p none (refused_by tables_apart) e refl
 
 -- ---- the three answers, each given exactly when; what tables hold is bytes
 
 -- by which the cases are told apart
-abbrev mark : Written → ℕ
-mark (Length k) = 0
-mark (Refused x) = x.number
+abbrev mark : Result ℕ Refusal → ℕ
+mark (Ok k) = 0
+mark (Err x) = x.number
 
-apart : (a b : Written) → mark a < mark b → a ≡ b → ⊥
+apart : (a b : Result ℕ Refusal) → mark a < mark b → a ≡ b → ⊥
 apart a b h e = let d : mark a ≡ mark b = ap mark e in omega arith
 
 -- a reading stands in the tables, and the room is long enough for its pack, of k bytes; or it is shorter
@@ -99,12 +98,12 @@ pub record Short (t : Tables) (n : Counts) (lent : List ℕ) : Type 0 where
   pub room : length lent < length (pack_bytes reading)
 
 -- one of the three
-pub data Answered (t : Tables) (n : Counts) (lent after : List ℕ) (r : Written) : Type 0 where
-  is_written : (k : ℕ) → Enough t n lent k → r ≡ Length k → Answered t n lent after r
+pub data Answered (t : Tables) (n : Counts) (lent after : List ℕ) (r : Result ℕ Refusal) : Type 0 where
+  is_written : (k : ℕ) → Enough t n lent k → r ≡ Ok k → Answered t n lent after r
   is_short : Short t n lent → r ≡ room_refused → after ≡ lent → Answered t n lent after r
   is_apart : ((q : Reading) → HoldTogether t n q → ⊥) → r ≡ apart_refused → after ≡ lent → Answered t n lent after r
 
-module _ {t : Tables} {n : Counts} {lent after : List ℕ} {r : Written} (b : OfBytes t) (p : WritesPack t n lent after r) where
+module _ {t : Tables} {n : Counts} {lent after : List ℕ} {r : Result ℕ Refusal} (b : OfBytes t) (p : WritesPack t n lent after r) where
   pub answered : Answered t n lent after r
   answered = go (handed_in t n) refl
     where
@@ -122,20 +121,20 @@ module _ {t : Tables} {n : Counts} {lent after : List ℕ} {r : Written} (b : Of
       go (some q) e = by_room q (handed_back t n q b e) (ltb (length lent) (length (pack_bytes q))) refl
 
   -- the pack is written
-  pub written_exactly : (k : ℕ) → (r ≡ Length k) ↔ Enough t n lent k
-  written_exactly k = (to answered, λ w. (room_enough p w.reading w.stands (let e = w.long in let h = w.room in omega arith)).0 ∙ ap Length (sym w.long))
+  pub written_exactly : (k : ℕ) → (r ≡ Ok k) ↔ Enough t n lent k
+  written_exactly k = (to answered, λ w. (room_enough p w.reading w.stands (let e = w.long in let h = w.room in omega arith)).0 ∙ ap Ok (sym w.long))
     where
-      to : Answered t n lent after r → r ≡ Length k → Enough t n lent k
+      to : Answered t n lent after r → r ≡ Ok k → Enough t n lent k
       to (is_written m w e) d = let f : m ≡ k = cc in subst (Enough t n lent) f w
-      to (is_short w e m) d = absurd (apart (Length k) room_refused (omega arith) (sym d ∙ e))
-      to (is_apart w e m) d = absurd (apart (Length k) apart_refused (omega arith) (sym d ∙ e))
+      to (is_short w e m) d = absurd (apart (Ok k) room_refused (omega arith) (sym d ∙ e))
+      to (is_apart w e m) d = absurd (apart (Ok k) apart_refused (omega arith) (sym d ∙ e))
 
   -- 22
   pub short_exactly : (r ≡ room_refused) ↔ Short t n lent
   short_exactly = (to answered, λ w. (room_short_lem p w.reading w.stands w.room).0)
     where
       to : Answered t n lent after r → r ≡ room_refused → Short t n lent
-      to (is_written m w e) d = absurd (apart (Length m) room_refused (omega arith) (sym e ∙ d))
+      to (is_written m w e) d = absurd (apart (Ok m) room_refused (omega arith) (sym e ∙ d))
       to (is_short w e m) d = w
       to (is_apart w e m) d = absurd (apart room_refused apart_refused (omega arith) (sym d ∙ e))
 
@@ -144,7 +143,7 @@ module _ {t : Tables} {n : Counts} {lent after : List ℕ} {r : Written} (b : Of
   apart_exactly = (to answered, from answered)
     where
       to : Answered t n lent after r → r ≡ apart_refused → (q : Reading) → HoldTogether t n q → ⊥
-      to (is_written m w e) d = absurd (apart (Length m) apart_refused (omega arith) (sym e ∙ d))
+      to (is_written m w e) d = absurd (apart (Ok m) apart_refused (omega arith) (sym e ∙ d))
       to (is_short w e m) d = absurd (apart room_refused apart_refused (omega arith) (sym e ∙ d))
       to (is_apart w e m) d = w
 
@@ -154,7 +153,7 @@ module _ {t : Tables} {n : Counts} {lent after : List ℕ} {r : Written} (b : Of
       from (is_apart w e m) f = e
 
   -- a refusal leaves lent memory unchanged
-  pub refused_unchanged : (x : Refusal) → r ≡ Refused x → after ≡ lent
+  pub refused_unchanged : (x : Refusal) → r ≡ Err x → after ≡ lent
   refused_unchanged x d = to answered
     where
       to : Answered t n lent after r → after ≡ lent
@@ -164,7 +163,7 @@ module _ {t : Tables} {n : Counts} {lent after : List ℕ} {r : Written} (b : Of
 
 -- ---- the pack that is written
 
-module _ {t : Tables} {n : Counts} {lent after : List ℕ} {r : Written} (b : OfBytes t) (p : WritesPack t n lent after r) (k : ℕ) (e : r ≡ Length k) where
+module _ {t : Tables} {n : Counts} {lent after : List ℕ} {r : Result ℕ Refusal} (b : OfBytes t) (p : WritesPack t n lent after r) (k : ℕ) (e : r ≡ Ok k) where
   -- "No pack exceeds 40,519 bytes"
   pub never_over : k ≤ max_pack_bytes
   never_over =

@@ -4,6 +4,7 @@
 ghost use Rattle.std.specs.Prelude.{◌≡◌, ◌++◌, ◌≤◌, T, length, drop};
 ghost use Rattle.paper.specs.Pack.Fields.{pack_bytes};
 ghost use Rattle.paper.specs.Computed.HandedIn.{decoded, holds};
+ghost use Rattle.hold.specs.HandedIn.{tables};
 ghost use Rattle.packer.specs.Length.{pack_length, Limited};
 ghost use Rattle.packer.specs.Write.{WritesPack};
 
@@ -11,6 +12,7 @@ use field::{
     BOUND_WIDTH, BYTE_WIDTH, CATEGORIES_WIDTH, COUNT_WIDTH, FLAG_WIDTH, LENGTH_WIDTH, LINES_WIDTH,
     NAME_LENGTH_WIDTH, NUMBER_WIDTH, RANGES_WIDTH, REFERENCES_WIDTH, VERSION_WIDTH,
 };
+use hold::Reading;
 use paper::{Counts, PACK_ROOM_SHORT, Refusal, TABLES_APART};
 
 // The widths in bits of the head, of a definition, and of a range without its references.
@@ -24,13 +26,6 @@ const DEFINITION_WIDTH: usize = FLAG_WIDTH + FLAG_WIDTH + LENGTH_WIDTH;
 
 const RANGE_WIDTH: usize = BOUND_WIDTH + BOUND_WIDTH + COUNT_WIDTH;
 
-// How many bytes the pack has; or 26 or 22.
-#[derive(Drop)]
-pub enum Written {
-    Length(usize),
-    Refused(Refusal),
-}
-
 // The length in bytes of a pack with these counts: "zero bits fill the last byte".
 fn pack_length(counts: Counts) -> usize
     requires { Limited counts }
@@ -43,66 +38,34 @@ fn pack_length(counts: Counts) -> usize
 }
 
 // The pack of tables that hold together, in a room that is long enough: its fields, and zero bits up to the end of the last byte.
-fn put_pack<'a>(
-    out: &mut [u8],
-    names: &'a [u8],
-    categories: &'a [u8],
-    definitions: &'a [u8],
-    ranges: &'a [u8],
-    references: &'a [u8],
-    counts: Counts,
-)
-    requires t { T (holds (record { names = names.now; categories = categories.now; definitions = definitions.now; ranges = ranges.now; references = references.now }) counts) }
-    requires counts_in_bounds { pack_length counts ≤ length out.old }
-    ensures { out.new ≡ pack_bytes (decoded (record { names = names.now; categories = categories.now; definitions = definitions.now; ranges = ranges.now; references = references.now }) counts) ++ drop (length (pack_bytes (decoded (record { names = names.now; categories = categories.now; definitions = definitions.now; ranges = ranges.now; references = references.now }) counts))) out.old }
+fn put_pack(out: &mut [u8], reading: &Reading)
+    requires t { T (holds (tables reading.now) reading.now.counts) }
+    requires counts_in_bounds { pack_length reading.now.counts ≤ length out.old }
+    ensures { out.new ≡ pack_bytes (decoded (tables reading.now) reading.now.counts) ++ drop (length (pack_bytes (decoded (tables reading.now) reading.now.counts))) out.old }
 {
-    let end = put_parts::put_fields(
-        out,
-        names,
-        categories,
-        definitions,
-        ranges,
-        references,
-        counts,
-    );
+    let end = put_parts::put_fields(out, reading);
     let pad = (BYTE_WIDTH - end.waiting) % BYTE_WIDTH;
     end.put(out, pad, 0);
 }
 
 // Writes the pack of a reading that is handed in as tables with their counts. Nothing is written for 26 and 22, and nothing behind the
 // pack.
-pub fn write_pack<'a>(
-    names: &'a [u8],
-    categories: &'a [u8],
-    definitions: &'a [u8],
-    ranges: &'a [u8],
-    references: &'a [u8],
-    counts: Counts,
-    out: &mut [u8],
-) -> Written
-    ensures { WritesPack (record { names = names.now; categories = categories.now; definitions = definitions.now; ranges = ranges.now; references = references.now }) counts out.old out.new result }
+pub fn write_pack(reading: &Reading, out: &mut [u8]) -> Result<usize, Refusal>
+    ensures { WritesPack (tables reading.now) reading.now.counts out.old out.new result }
 {
-    if !hold::reading_holds(names, categories, definitions, ranges, references, counts) {
-        return Written::Refused(Refusal {
+    if !reading.holds() {
+        return Err(Refusal {
             number: TABLES_APART,
             place: 0,
         });
     }
-    let need = pack_length(counts);
+    let need = pack_length(reading.counts);
     if out.len() < need {
-        return Written::Refused(Refusal {
+        return Err(Refusal {
             number: PACK_ROOM_SHORT,
             place: 0,
         });
     }
-    put_pack(
-        out,
-        names,
-        categories,
-        definitions,
-        ranges,
-        references,
-        counts,
-    );
-    Written::Length(need)
+    put_pack(out, reading);
+    Ok(need)
 }

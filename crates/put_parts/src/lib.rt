@@ -7,12 +7,14 @@ ghost use Rattle.paper.specs.Pack.Fields.{flag, byte_width, name_length_width, h
 ghost use Rattle.paper.specs.Tables.Layout.{name_slot_size, definition_size, definition_of, pieces, split};
 ghost use Rattle.paper.specs.Computed.HandedIn.{decoded, holds};
 ghost use Rattle.put_field.specs.Writer.{Room, Puts, start};
+ghost use Rattle.hold.specs.HandedIn.{tables};
 ghost use Rattle.put_parts.specs.Parts.{lengths_in, head_of, pack_width};
 
 use field::{
     CATEGORIES_WIDTH, FLAG_WIDTH, LENGTH_WIDTH, LINES_WIDTH, NAME_LENGTH_WIDTH, RANGES_WIDTH,
     REFERENCES_WIDTH, VERSION_WIDTH,
 };
+use hold::Reading;
 use paper::Counts;
 use put_field::BitWriter;
 use table::{CATEGORY_BYTES, DEFINITION_BYTES, GROUP_AT, INVOKE_AT, NAME_LENGTH_AT};
@@ -61,12 +63,10 @@ fn put_names(
 {
     let mut w = from;
     let mut at = 0;
-    let mut i = 0;
-    while i < n {
-        let len = table::get_u16(categories, CATEGORY_BYTES * i + NAME_LENGTH_AT) as usize;
+    for i in 0..n {
+        let len = usize::from(table::get_u16(categories, CATEGORY_BYTES * i + NAME_LENGTH_AT));
         w = put_name(w, out, names, at, len);
         at += len;
-        i += 1;
     }
     w
 }
@@ -76,10 +76,7 @@ fn flag_at(definitions: &[u8], at: usize) -> u64
     requires { at < length definitions.now }
     ensures { result ≡ flag (eqb (get_or definitions.now at 0) 1) }
 {
-    if definitions[at] == 1 {
-        return 1;
-    }
-    0
+    u64::from(definitions[at] == 1)
 }
 
 // Definition i: "invoke 1, group 1, length 32".
@@ -91,10 +88,10 @@ fn put_definition(from: BitWriter, out: &mut [u8], definitions: &[u8], i: usize)
     let at = DEFINITION_BYTES * i;
     let invoke = flag_at(definitions, at + INVOKE_AT);
     let group = flag_at(definitions, at + GROUP_AT);
-    let length = table::get_u32(definitions, at) as u64;
+    let length = table::get_u32(definitions, at);
     let second = from.put(out, FLAG_WIDTH, invoke);
     let third = second.put(out, FLAG_WIDTH, group);
-    third.put(out, LENGTH_WIDTH, length)
+    third.put(out, LENGTH_WIDTH, u64::from(length))
 }
 
 // The definitions, in the order of the table.
@@ -104,30 +101,21 @@ fn put_definitions(from: BitWriter, out: &mut [u8], definitions: &[u8], n: usize
     ensures { Puts out.old from (joined (map definition_fields (map definition_of (pieces definition_size n definitions.now)))) (definition_width * n) out.new result }
 {
     let mut w = from;
-    let mut i = 0;
-    while i < n {
+    for i in 0..n {
         w = put_definition(w, out, definitions, i);
-        i += 1;
     }
     w
 }
 
 // Every field of the pack, of tables that hold together.
-pub fn put_fields<'a>(
-    out: &mut [u8],
-    names: &'a [u8],
-    categories: &'a [u8],
-    definitions: &'a [u8],
-    ranges: &'a [u8],
-    references: &'a [u8],
-    counts: Counts,
-) -> BitWriter
-    requires t { T (holds (record { names = names.now; categories = categories.now; definitions = definitions.now; ranges = ranges.now; references = references.now }) counts) }
-    requires room { Room out.old start (pack_width counts) }
-    ensures { Puts out.old start (pack_fields (decoded (record { names = names.now; categories = categories.now; definitions = definitions.now; ranges = ranges.now; references = references.now }) counts)) (pack_width counts) out.new result }
+pub fn put_fields(out: &mut [u8], reading: &Reading) -> BitWriter
+    requires t { T (holds (tables reading.now) reading.now.counts) }
+    requires room { Room out.old start (pack_width reading.now.counts) }
+    ensures { Puts out.old start (pack_fields (decoded (tables reading.now) reading.now.counts)) (pack_width reading.now.counts) out.new result }
 {
-    let head = put_head(out, counts);
-    let named = put_names(head, out, names, categories, counts.categories);
-    let defined = put_definitions(named, out, definitions, counts.definitions);
-    put_ranges::put_ranges(defined, out, ranges, references, counts.ranges)
+    let n = reading.counts;
+    let head = put_head(out, n);
+    let named = put_names(head, out, reading.names, reading.categories, n.categories);
+    let defined = put_definitions(named, out, reading.definitions, n.definitions);
+    put_ranges::put_ranges(defined, out, reading.ranges, reading.references, n.ranges)
 }

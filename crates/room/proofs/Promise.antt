@@ -17,27 +17,26 @@ use Rattle.paper.specs.Tables.Lent.{padded}
 use Rattle.paper.specs.Tables.Reader.{has_room, in_lent, given, clears, past, cleared, leaves, Reads}
 use Rattle.paper.specs.declared.Counts.{Counts}
 use Rattle.paper.specs.declared.Refusal.{Refusal}
-use Rattle.paper.specs.declared.Outcome.{Outcome}
-use Rattle.paper.specs.declared.Outcome.TheVariants.{Accepted, Refused}
 use Rattle.paper.proofs.Apart.{zero_one}
 use Rattle.paper.proofs.Tables.Room.{zeros, padded_is, layout_fits}
 use Rattle.paper.proofs.Tables.Trip.{tables_is, handed_in_lem}
 use Rattle.room.proofs.Five.{past_padded, past_zero, past_either, by_test}
 use Rattle.room.proofs.Sizes.{RoomIn, room_in}
 use Rattle.room.proofs.Whole.{short_answer, has_answer}
+use Rattle.std.specs.Prelude.{Err, Ok, Result}
 
 -- ---- NOTHING IS LEFT OPEN: two outcomes that the promise allows coincide, in the answer and in the memory
 
-pub reads_one : {x : Answer} {lent a b : Tables} {r s : Outcome} → Reads x lent a r → Reads x lent b s → (r ≡ s) × (a ≡ b)
+pub reads_one : {x : Answer} {lent a b : Tables} {r s : Result Counts Refusal} → Reads x lent a r → Reads x lent b s → (r ≡ s) × (a ≡ b)
 reads_one p q = (p.answer ∙ sym q.answer, p.memory ∙ sym q.memory)
 
 -- ---- the answers, by the enum's case
 
-accepted_is : (a : Answer) (n : Counts) → Accepted n ≡ given a → (q : Reading) × (a ≡ accepted q) × (n ≡ counts_of q)
+accepted_is : (a : Answer) (n : Counts) → Ok n ≡ given a → (q : Reading) × (a ≡ accepted q) × (n ≡ counts_of q)
 accepted_is (accepted q) n e = (q, refl, cc)
 accepted_is (refused k place) n e = zero_one (cc)
 
-refused_is : (a : Answer) (x : Refusal) → Refused x ≡ given a → a ≡ refused x.number x.place
+refused_is : (a : Answer) (x : Refusal) → Err x ≡ given a → a ≡ refused x.number x.place
 refused_is (accepted q) x e = zero_one (cc)
 refused_is (refused k place) x e =
     let i : x ≡ record { number = k; place = place } = cc in
@@ -45,22 +44,22 @@ refused_is (refused k place) x e =
 
 -- ---- refusal 1: given where the room is short, and nothing is changed
 
-pub short_exactly : {a : Answer} {lent after : Tables} {r : Outcome} → Reads a lent after r → has_room lent ≡ false
-    → (r ≡ Refused (record { number = room_short; place = 0 })) × (after ≡ lent)
+pub short_exactly : {a : Answer} {lent after : Tables} {r : Result Counts Refusal} → Reads a lent after r → has_room lent ≡ false
+    → (r ≡ Err (record { number = room_short; place = 0 })) × (after ≡ lent)
 unfolding leaves clears
 short_exactly {a} {lent} p e =
     let i : in_lent lent a ≡ refused room_short 0 = short_answer a lent e in
     (p.answer ∙ ap given i, p.memory ∙ ap (λ x. leaves x lent) i)
 
-module _ {a : Answer} {lent after : Tables} {r : Outcome} (room : has_room lent ≡ true) (p : Reads a lent after r) where
+module _ {a : Answer} {lent after : Tables} {r : Result Counts Refusal} (room : has_room lent ≡ true) (p : Reads a lent after r) where
   own_answer : in_lent lent a ≡ a
   own_answer = has_answer a lent room
 
-  pub accepted_exactly : (n : Counts) → (r ≡ Accepted n) ↔ ((q : Reading) × (a ≡ accepted q) × (n ≡ counts_of q))
+  pub accepted_exactly : (n : Counts) → (r ≡ Ok n) ↔ ((q : Reading) × (a ≡ accepted q) × (n ≡ counts_of q))
   accepted_exactly n =
-      (λ e. accepted_is a n (sym e ∙ p.answer ∙ ap given own_answer), λ (q, i, c). p.answer ∙ ap given (own_answer ∙ i) ∙ ap Accepted (sym c))
+      (λ e. accepted_is a n (sym e ∙ p.answer ∙ ap given own_answer), λ (q, i, c). p.answer ∙ ap given (own_answer ∙ i) ∙ ap Ok (sym c))
 
-  pub refused_exactly : (x : Refusal) → (r ≡ Refused x) ↔ (a ≡ refused x.number x.place)
+  pub refused_exactly : (x : Refusal) → (r ≡ Err x) ↔ (a ≡ refused x.number x.place)
   refused_exactly x = (λ e. refused_is a x (sym e ∙ p.answer ∙ ap given own_answer), λ i. p.answer ∙ ap given (own_answer ∙ i))
 
   -- the reading's tables, and what lay past the sizes
@@ -95,7 +94,7 @@ room_behind t x =
     (padded_behind (reference_size * max_references) t.references x.references)
 
 -- handed in, the tables and the counts of an acceptance give back the reading
-pub handed_back : {a : Answer} {lent after : Tables} {r : Outcome} → has_room lent ≡ true → Reads a lent after r
+pub handed_back : {a : Answer} {lent after : Tables} {r : Result Counts Refusal} → has_room lent ≡ true → Reads a lent after r
     → (q : Reading) → a ≡ accepted q → PackRules q → handed_in after (counts_of q) ≡ some q
 handed_back {a} {lent} room p q i k =
     ap (λ t. handed_in t (counts_of q)) (holds_reading room p q i ∙ room_behind (layout q) (past lent)) ∙ handed_in_lem q (more (layout q) (past lent)) k
@@ -118,7 +117,7 @@ past_cleared lent h =
     (past_zero (definition_size * max_category_lines) lent.definitions h.third) (past_zero (range_slot_size * max_ranges) lent.ranges h.fourth)
     (past_zero (reference_size * max_references) lent.references h.fifth)
 
-pub past_kept : {a : Answer} {lent after : Tables} {r : Outcome} → Reads a lent after r
+pub past_kept : {a : Answer} {lent after : Tables} {r : Result Counts Refusal} → Reads a lent after r
     → ((q : Reading) → a ≡ accepted q → PackRules q) → past after ≡ past lent
 past_kept {a} {lent} {after} {r} p k = by_test (has_room lent) (by_answer a refl) (λ e. ap past (short_exactly p e).1)
   where

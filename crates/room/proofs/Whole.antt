@@ -10,12 +10,13 @@ use Rattle.paper.specs.Refusals.{room_short}
 use Rattle.paper.specs.CharDef.Reading.{Answer, accepted, refused}
 use Rattle.paper.specs.Tables.Layout.{Tables, in_room, behind, name_slot_size, definition_size, range_slot_size, reference_size}
 use Rattle.paper.specs.Tables.Reader.{has_room, in_lent, given, clears, past, cleared, leaves, Reads}
-use Rattle.paper.specs.declared.Outcome.{Outcome}
-use Rattle.paper.specs.declared.Outcome.TheVariants.{Accepted, Refused}
 use Rattle.paper.proofs.Tables.Trip.{tables_is}
 use Rattle.room.specs.Sized.{no_tables, ReadInto}
 use Rattle.room.proofs.Five.{zero_past}
 use Rattle.room.proofs.Sizes.{RoomIn, room_in}
+use Rattle.std.specs.Prelude.{Err, Ok, Result}
+use Rattle.paper.specs.declared.Counts.{Counts}
+use Rattle.paper.specs.declared.Refusal.{Refusal}
 
 cleared_is : (t : Tables) → RoomIn t → behind (in_room no_tables) (past t) ≡ cleared t
 unfolding behind in_room no_tables past cleared
@@ -34,7 +35,7 @@ module _ (a : Answer) (t : Tables) where
   has_answer e = ap (λ b. cond b a (refused room_short 0)) e
 
   -- a refusal that leaves memory as it was
-  unchanged : (n place : ℕ) → in_lent t a ≡ refused n place → clears n ≡ false → Reads a t t (Refused (record { number = n; place = place }))
+  unchanged : (n place : ℕ) → in_lent t a ≡ refused n place → clears n ≡ false → Reads a t t (Err (record { number = n; place = place }))
   unfolding leaves
   unchanged n place e h =
       record {
@@ -42,24 +43,24 @@ module _ (a : Answer) (t : Tables) where
         memory = sym (ap (λ x. leaves x t) e ∙ ap (λ b. cond b (cleared t) t) h);
       }
 
-  pub short_room : false ≡ has_room t → Reads a t t (Refused (record { number = room_short; place = 0 }))
+  pub short_room : false ≡ has_room t → Reads a t t (Err (record { number = room_short; place = 0 }))
   unfolding clears
   short_room e = unchanged room_short 0 (short_answer (sym e)) refl
 
   module _ (room : true ≡ has_room t) where
-    pub nothing_written : (n place : ℕ) → a ≡ refused n place → clears n ≡ false → Reads a t t (Refused (record { number = n; place = place }))
+    pub nothing_written : (n place : ℕ) → a ≡ refused n place → clears n ≡ false → Reads a t t (Err (record { number = n; place = place }))
     nothing_written n place e h = unchanged n place (has_answer (sym room) ∙ e) h
 
     into : ((n place : ℕ) → a ≡ refused n place → clears n ≡ true) → (part after : Tables) → after ≡ behind part (past t)
-        → (r : Outcome) → ReadInto a part r → Reads a t after r
+        → (r : Result Counts Refusal) → ReadInto a part r → Reads a t after r
     unfolding leaves
-    into k part after e (Accepted n) z =
+    into k part after e (Ok n) z =
         let i : in_lent t a ≡ accepted z.reading = has_answer (sym room) ∙ z.is in
         record {
-          answer = ap Accepted z.counts ∙ ap given (sym i);
+          answer = ap Ok z.counts ∙ ap given (sym i);
           memory = e ∙ ap (λ x. behind x (past t)) z.tables ∙ ap (λ x. leaves x t) (sym i);
         }
-    into k part after e (Refused x) z =
+    into k part after e (Err x) z =
         let i : in_lent t a ≡ refused x.number x.place = has_answer (sym room) ∙ z.is in
         record {
           answer = ap given (sym i);
@@ -68,7 +69,7 @@ module _ (a : Answer) (t : Tables) where
         }
 
     -- a reader of the parts, where each of its refusals clears the room: what lies past the sizes stays behind the parts that were lent
-    pub reads : ((n place : ℕ) → a ≡ refused n place → clears n ≡ true) → (part : Tables) (r : Outcome) → ReadInto a part r
+    pub reads : ((n place : ℕ) → a ≡ refused n place → clears n ≡ true) → (part : Tables) (r : Result Counts Refusal) → ReadInto a part r
         → Reads a t
         (record {
           names = part.names ++ drop max_name_bytes t.names;

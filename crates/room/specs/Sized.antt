@@ -5,8 +5,8 @@ use Rattle.paper.specs.Sizes.{max_categories, max_name_bytes, max_category_lines
 use Rattle.paper.specs.CharDef.Reading.{Reading, Answer, accepted, refused}
 use Rattle.paper.specs.Tables.Layout.{Tables, layout, in_room, counts_of, name_slot_size, definition_size, range_slot_size, reference_size}
 use Rattle.paper.specs.declared.Counts.{Counts}
-use Rattle.paper.specs.declared.Outcome.{Outcome}
-use Rattle.paper.specs.declared.Outcome.TheVariants.{Accepted, Refused}
+use Rattle.std.specs.Prelude.{Err, Ok, Result}
+use Rattle.paper.specs.declared.Refusal.{Refusal}
 
 pub record Sized (t : Tables) : Type 0 where
   pub names : length t.names ≡ max_name_bytes
@@ -29,7 +29,12 @@ pub record RefusedInto (a : Answer) (after : Tables) (number place : ℕ) : Type
   pub is : a ≡ refused number place
   pub tables : after ≡ in_room no_tables
 
+-- the reading's tables; nothing is said of them where the answer is a refusal
+abbrev pub FilledInto : Answer → Tables → Result Counts Refusal → Type 0
+FilledInto a after (Ok n) = AcceptedInto a after n
+FilledInto a after (Err x) = a ≡ refused x.number x.place
+
 -- the reading's tables, or zero where the answer is a refusal
-abbrev pub ReadInto : Answer → Tables → Outcome → Type 0
-ReadInto a after (Accepted n) = AcceptedInto a after n
-ReadInto a after (Refused x) = RefusedInto a after x.number x.place
+abbrev pub ReadInto : Answer → Tables → Result Counts Refusal → Type 0
+ReadInto a after (Ok n) = AcceptedInto a after n
+ReadInto a after (Err x) = RefusedInto a after x.number x.place

@@ -35,9 +35,9 @@ use Rattle.row_room.specs.Room.{RoomIs}
 use Rattle.row.specs.Built.{answer_to, given, ahead, filled, leaves, BuildsRows}
 use Rattle.row.specs.Made.{RoomFor, Made, Kept, MadeOr17}
 use Rattle.row.specs.declared.RowCounts.{RowCounts}
-use Rattle.row.specs.declared.Built.{Built}
-use Rattle.row.specs.declared.Built.TheVariants.{Rows, Refused}
 use Rattle.row.proofs.Meets.{boundaries_met, rows_met}
+use Rattle.std.specs.Prelude.{Err, Ok, Result}
+use Rattle.paper.specs.declared.Refusal.{Refusal}
 
 -- ---- refused or made, by the need and the test of the room
 
@@ -124,7 +124,7 @@ rows_found : (t : Tables) (n : Counts) → T (holds t n) → (ds : List ℕ) →
 rows_found t n h ds e = ap (λ d. rows_of d (slots_got 0 n.ranges t.ranges) t.references) (e ∙ fallback_met t n h) ∙ rows_met t n h
 
 module _ (t : Tables) (n : Counts) (lent : RowRoom) where
-  pub builds_apart : holds t n ≡ false → BuildsRows t n lent lent (Refused (record { number = tables_apart; place = 0 }))
+  pub builds_apart : holds t n ≡ false → BuildsRows t n lent lent (Err (record { number = tables_apart; place = 0 }))
   unfolding handed_in rows_built
   builds_apart e = record { answer = rw e; memory = rw e }
 
@@ -133,28 +133,28 @@ module _ (t : Tables) (n : Counts) (lent : RowRoom) where
     unfolding handed_in rows_built
     answer_is = rw (T→true (holds t n) h)
 
-    builds_so : (after : RowRoom) (a : Built) → MadeOr17 (boundaries (decoded t n)) (rows (decoded t n)) lent after a → BuildsRows t n lent after a
+    builds_so : (after : RowRoom) (a : Result RowCounts Refusal) → MadeOr17 (boundaries (decoded t n)) (rows (decoded t n)) lent after a → BuildsRows t n lent after a
     unfolding rows_needed
-    builds_so after (Rows k) m =
+    builds_so after (Ok k) m =
         let e : answer_to t n lent ≡ built = answer_is ∙ ap (λ b. cond b (refused_by table_room_short) built) (roomy_not (decoded t n) lent m.roomy) in
         record {
           answer = counts m.count_rows m.count_places ∙ ap (given (decoded t n)) (sym e);
           memory = filled_so (decoded t n) lent after m.roomy m.filled ∙ ap (λ b. leaves (decoded t n) b lent) (sym e);
         }
       where
-        counts : k.rows ≡ length (boundaries (decoded t n)) → k.places ≡ length (joined (rows (decoded t n))) → Rows k ≡ given (decoded t n) built
-        counts p q = ap₂ (λ x y. Rows (record { rows = x; places = y })) p (q ∙ sym (places_exact (decoded t n)))
-    builds_so after (Refused e) m =
+        counts : k.rows ≡ length (boundaries (decoded t n)) → k.places ≡ length (joined (rows (decoded t n))) → Ok k ≡ given (decoded t n) built
+        counts p q = ap₂ (λ x y. Ok (record { rows = x; places = y })) p (q ∙ sym (places_exact (decoded t n)))
+    builds_so after (Err e) m =
         let f : answer_to t n lent ≡ refused_by table_room_short = answer_is ∙ ap (λ b. cond b (refused_by table_room_short) built) (short_is (decoded t n) lent m.short) in
         record {
           answer = refusal m.is_17 m.at_0 ∙ ap (given (decoded t n)) (sym f);
           memory = m.same ∙ ap (λ b. leaves (decoded t n) b lent) (sym f);
         }
       where
-        refusal : e.number ≡ table_room_short → e.place ≡ 0 → Refused e ≡ given (decoded t n) (refused_by table_room_short)
-        refusal p q = ap₂ (λ x y. Refused (record { number = x; place = y })) p q
+        refusal : e.number ≡ table_room_short → e.place ≡ 0 → Err e ≡ given (decoded t n) (refused_by table_room_short)
+        refusal p q = ap₂ (λ x y. Err (record { number = x; place = y })) p q
 
-    pub builds_rows : (ds : List ℕ) (after : RowRoom) (a : Built) → ds ≡ found_row (find_name t.names t.categories n.categories default)
+    pub builds_rows : (ds : List ℕ) (after : RowRoom) (a : Result RowCounts Refusal) → ds ≡ found_row (find_name t.names t.categories n.categories default)
         → MadeOr17 (boundaries_of (slots_got 0 n.ranges t.ranges)) (rows_of ds (slots_got 0 n.ranges t.ranges) t.references) lent after a
         → BuildsRows t n lent after a
     builds_rows ds after a e m =
@@ -164,14 +164,14 @@ module _ (t : Tables) (n : Counts) (lent : RowRoom) where
 
 -- ---- NOTHING IS LEFT OPEN: two outcomes that the promise allows coincide, in the answer and in the memory
 
-pub built_one : {t : Tables} {n : Counts} {lent a b : RowRoom} {r s : Built} → BuildsRows t n lent a r → BuildsRows t n lent b s → (r ≡ s) × (a ≡ b)
+pub built_one : {t : Tables} {n : Counts} {lent a b : RowRoom} {r s : Result RowCounts Refusal} → BuildsRows t n lent a r → BuildsRows t n lent b s → (r ≡ s) × (a ≡ b)
 built_one p q = (p.answer ∙ sym q.answer, p.memory ∙ sym q.memory)
 
 -- ---- the answers
 
-module _ {t : Tables} {n : Counts} {lent after : RowRoom} {a : Built} (p : BuildsRows t n lent after a) where
+module _ {t : Tables} {n : Counts} {lent after : RowRoom} {a : Result RowCounts Refusal} (p : BuildsRows t n lent after a) where
   -- 26 exactly where no reading is handed in, and nothing is changed
-  pub apart_given : handed_in t n ≡ none → (a ≡ Refused (record { number = tables_apart; place = 0 })) × (after ≡ lent)
+  pub apart_given : handed_in t n ≡ none → (a ≡ Err (record { number = tables_apart; place = 0 })) × (after ≡ lent)
   unfolding rows_built
   apart_given e = (p.answer ∙ rw e, p.memory ∙ rw e)
 
@@ -189,13 +189,13 @@ module _ {t : Tables} {n : Counts} {lent after : RowRoom} {a : Built} (p : Build
     answer_so = rw e
 
     -- 17 where a slice is below the exact need, and nothing is changed
-    pub short_given : shortage r lent ≡ true → (a ≡ Refused (record { number = table_room_short; place = 0 })) × (after ≡ lent)
+    pub short_given : shortage r lent ≡ true → (a ≡ Err (record { number = table_room_short; place = 0 })) × (after ≡ lent)
     short_given s =
         let q : answer_to t n lent ≡ refused_by table_room_short = answer_so ∙ ap (λ b. cond b (refused_by table_room_short) built) s in
         (p.answer ∙ ap (given (decoded t n)) q, p.memory ∙ ap (λ b. leaves (decoded t n) b lent) q)
 
     -- otherwise the reading's rows
-    pub rows_given : shortage r lent ≡ false → (a ≡ Rows (record { rows = rows_needed r; places = places_needed r })) × (after ≡ filled r lent)
+    pub rows_given : shortage r lent ≡ false → (a ≡ Ok (record { rows = rows_needed r; places = places_needed r })) × (after ≡ filled r lent)
     rows_given s =
         let q : answer_to t n lent ≡ built = answer_so ∙ ap (λ b. cond b (refused_by table_room_short) built) s in
         (p.answer ∙ ap₂ given read_so q, p.memory ∙ ap₂ (λ x b. leaves x b lent) read_so q)
@@ -221,7 +221,7 @@ rows_left_filled r lent index flat =
       pool_is = starts_ahead (flat_pool r) lent.pool;
     }
 
-pub rows_left : {t : Tables} {n : Counts} {lent after : RowRoom} {k : RowCounts} → BuildsRows t n lent after (Rows k)
+pub rows_left : {t : Tables} {n : Counts} {lent after : RowRoom} {k : RowCounts} → BuildsRows t n lent after (Ok k)
     → (r : Reading) → handed_in t n ≡ some r → (index flat : List ℕ)
     → RowsLeft r (lookup_over index flat k.rows after)
 rows_left {t} {n} {lent} {after} {k} p r e index flat = go (shortage r lent) refl

@@ -12,8 +12,9 @@ use Rattle.paper.specs.Tables.Layout.{Tables}
 use Rattle.paper.specs.Computed.HandedIn.{decoded, handed_in}
 use Rattle.paper.specs.declared.Counts.{Counts}
 use Rattle.fill_rows.specs.Walked.{RowRoom}
-use Rattle.row.specs.declared.Built.{Built}
-use Rattle.row.specs.declared.Built.TheVariants.{Rows, Refused}
+use Rattle.std.specs.Prelude.{Err, Ok, Result}
+use Rattle.paper.specs.declared.Refusal.{Refusal}
+use Rattle.row.specs.declared.RowCounts.{RowCounts}
 
 -- ---- the answer
 
@@ -22,9 +23,9 @@ abbrev pub answer_to : Tables → Counts → RowRoom → paper.Built
 answer_to t n lent = rows_built (handed_in t n) (length lent.boundaries) (length lent.starts) (length lent.lengths) (length lent.pool)
 
 -- the case of the enum for each answer of the paper: the counts of the reading's rows, or the number of the refusal, at place 0
-abbrev pub given : Reading → paper.Built → Built
-given r built = Rows (record { rows = rows_needed r; places = places_needed r })
-given r (refused_by number) = Refused (record { number = number; place = 0 })
+abbrev pub given : Reading → paper.Built → Result RowCounts Refusal
+given r built = Ok (record { rows = rows_needed r; places = places_needed r })
+given r (refused_by number) = Err (record { number = number; place = 0 })
 
 -- ---- lent memory afterwards
 
@@ -49,6 +50,6 @@ leaves r (refused_by number) lent = lent
 
 -- ---- both together: `decoded` is the reading of tables that hold together
 
-pub record BuildsRows (t : Tables) (n : Counts) (lent after : RowRoom) (a : Built) : Type 0 where
+pub record BuildsRows (t : Tables) (n : Counts) (lent after : RowRoom) (a : Result RowCounts Refusal) : Type 0 where
   pub answer : a ≡ given (decoded t n) (answer_to t n lent)
   pub memory : after ≡ leaves (decoded t n) (answer_to t n lent) lent

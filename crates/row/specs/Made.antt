@@ -5,8 +5,9 @@ use Rattle.paper.specs.Refusals.{table_room_short}
 use Rattle.paper.specs.Lists.{joined}
 use Rattle.row_room.specs.Room.{Room}
 use Rattle.fill_rows.specs.Walked.{RowRoom, Filled}
-use Rattle.row.specs.declared.Built.{Built}
-use Rattle.row.specs.declared.Built.TheVariants.{Rows, Refused}
+use Rattle.std.specs.Prelude.{Err, Ok, Result}
+use Rattle.paper.specs.declared.Refusal.{Refusal}
+use Rattle.row.specs.declared.RowCounts.{RowCounts}
 
 abbrev pub RoomFor : List ℕ → List (List ℕ) → RowRoom → Type 0
 RoomFor bs ws lent =
@@ -24,6 +25,6 @@ pub record Kept (bs : List ℕ) (ws : List (List ℕ)) (lent after : RowRoom) (n
   pub at_0 : place ≡ 0
   pub same : after ≡ lent
 
-abbrev pub MadeOr17 : List ℕ → List (List ℕ) → RowRoom → RowRoom → Built → Type 0
-MadeOr17 bs ws lent after (Rows n) = Made bs ws lent after n.rows n.places
-MadeOr17 bs ws lent after (Refused e) = Kept bs ws lent after e.number e.place
+abbrev pub MadeOr17 : List ℕ → List (List ℕ) → RowRoom → RowRoom → Result RowCounts Refusal → Type 0
+MadeOr17 bs ws lent after (Ok n) = Made bs ws lent after n.rows n.places
+MadeOr17 bs ws lent after (Err e) = Kept bs ws lent after e.number e.place

@@ -24,7 +24,10 @@ use Rattle.unk_enter.specs.Lines.{mark_said, mark_in, Memory, entry_bytes, Held}
 use Rattle.unk.specs.Walk.{WalkEnded}
 use Rattle.unk_members.specs.Members.{marks_in, lists_from, Marked, place_table, member_table, Listed}
 use Rattle.unk.specs.Parse.{entries_size, offsets_size, places_size, members_size, in_room}
-use Rattle.unk.specs.Filled.{no_tables, marks_of, laid_out, LinesAccepted}
+use Rattle.std.specs.Prelude.{Result, Ok, Err, true, is_err}
+use Rattle.paper.specs.declared.Refusal.{Refusal}
+use Rattle.paper.proofs.Apart.{true_false}
+use Rattle.unk.specs.Filled.{no_tables, marks_of, laid_out, LinesAccepted, TablesFilled, LinesRead}
 use Rattle.unk.proofs.Room.{tables_is}
 use Rattle.unk_enter.proofs.Marks.{found_below}
 use Rattle.unk_enter.proofs.Entered.{wide_word, entries_long}
@@ -121,3 +124,10 @@ module _ (mark : List ℕ → ℕ) (count : ℕ) (most : (name : List ℕ) → m
             (l.in_places ∙ ap (λ ms. padded places_size (place_table (map length (lists_from 0 count ms)))) (marks_are z))
             (l.in_members ∙ ap (λ ms. padded members_size (member_table (lists_from 0 count ms))) (marks_are z));
       }
+
+-- ---- where the walk stopped
+
+pub refused_into : (mark : List ℕ → ℕ) (count : ℕ) (a : Entries) (before : UnkTables) {after : UnkTables} (r : Result UnkCounts Refusal)
+    → is_err r ≡ true → TablesFilled mark count a before r → after ≡ in_room no_tables → LinesRead mark count a after r
+refused_into mark count a before (Ok n) e h t = true_false (sym e)
+refused_into mark count a before (Err x) e h t = record { is = h; tables = t }

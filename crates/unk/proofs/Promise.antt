@@ -29,8 +29,6 @@ use Rattle.paper.proofs.Unk.Refused.{unk_refused_exactly}
 use Rattle.paper.proofs.Unk.Text.{unk_accepts}
 use Rattle.room.proofs.Five.{past_padded, past_zero, past_either, by_test}
 use Rattle.unk_enter.specs.declared.UnkCounts.{UnkCounts}
-use Rattle.unk.specs.declared.UnkOutcome.{UnkOutcome}
-use Rattle.unk.specs.declared.UnkOutcome.TheVariants.{Accepted, Refused}
 use Rattle.unk.specs.Layout.{UnkTables, layout}
 use Rattle.unk_enter.specs.Fields.{entry_size, offset_size}
 use Rattle.unk_enter.specs.Lines.{mark_in, entry_bytes}
@@ -44,29 +42,30 @@ use Rattle.unk_members.proofs.Places.{place_length}
 use Rattle.unk_members.proofs.Passes.{lists_tallies}
 use Rattle.unk.proofs.Laid.{laid_out_is}
 use Rattle.unk.proofs.Whole.{named, few_categories, handed_true, handed_decoded, short_answer, has_answer}
+use Rattle.std.specs.Prelude.{Err, Ok, Result}
 
 -- ---- NOTHING IS LEFT OPEN: two outcomes that the promise allows coincide, in the answer and in the memory
 
-pub parsed_one : {t : Tables} {n : Counts} {text : List ℕ} {lent a b : UnkTables} {r s : UnkOutcome}
+pub parsed_one : {t : Tables} {n : Counts} {text : List ℕ} {lent a b : UnkTables} {r s : Result UnkCounts Refusal}
     → ParsesUnk t n text lent a r → ParsesUnk t n text lent b s → (r ≡ s) × (a ≡ b)
 parsed_one p q = (p.answer ∙ sym q.answer, p.memory ∙ sym q.memory)
 
 -- ---- the answers, by the enum's case
 
-accepted_is : (a : UnkAnswer) (c : UnkCounts) → Accepted c ≡ given a → (u : Unk) × (a ≡ accepted u) × (c ≡ counts_of u)
+accepted_is : (a : UnkAnswer) (c : UnkCounts) → Ok c ≡ given a → (u : Unk) × (a ≡ accepted u) × (c ≡ counts_of u)
 accepted_is (accepted u) c e = (u, refl, cc)
 accepted_is (refused k place) c e = zero_one (cc)
 
-refused_is : (a : UnkAnswer) (x : Refusal) → Refused x ≡ given a → a ≡ refused x.number x.place
+refused_is : (a : UnkAnswer) (x : Refusal) → Err x ≡ given a → a ≡ refused x.number x.place
 refused_is (accepted u) x e = zero_one (cc)
 refused_is (refused k place) x e =
     let i : x ≡ record { number = k; place = place } = cc in
     sym (ap (λ y. refused y.number y.place) i)
 
-module _ {t : Tables} {n : Counts} {text : List ℕ} {lent after : UnkTables} {r : UnkOutcome} (p : ParsesUnk t n text lent after r) where
+module _ {t : Tables} {n : Counts} {text : List ℕ} {lent after : UnkTables} {r : Result UnkCounts Refusal} (p : ParsesUnk t n text lent after r) where
   -- ---- refusal 1: where the room is short, and nothing is changed
 
-  pub short_exactly : has_room lent ≡ false → (r ≡ Refused (record { number = room_short; place = 0 })) × (after ≡ lent)
+  pub short_exactly : has_room lent ≡ false → (r ≡ Err (record { number = room_short; place = 0 })) × (after ≡ lent)
   unfolding leaves clears
   short_exactly e =
       let a : answer_to t n text lent ≡ refused room_short 0 = short_answer t n text lent e in
@@ -78,7 +77,7 @@ module _ {t : Tables} {n : Counts} {text : List ℕ} {lent after : UnkTables} {r
 
     -- ---- refusal 26: where the tables hold no reading, and nothing is changed
 
-    pub apart_exactly : handed_in t n ≡ none → (r ≡ Refused (record { number = tables_apart; place = 0 })) × (after ≡ lent)
+    pub apart_exactly : handed_in t n ≡ none → (r ≡ Err (record { number = tables_apart; place = 0 })) × (after ≡ lent)
     unfolding leaves clears
     apart_exactly e =
         let a : answer_to t n text lent ≡ refused tables_apart 0 = over ∙ ap (λ x. over_reading x text) e in
@@ -91,19 +90,19 @@ module _ {t : Tables} {n : Counts} {text : List ℕ} {lent after : UnkTables} {r
       answered_so = over ∙ ap (λ x. over_reading x text) handed
 
       -- accepted exactly when something fits, with its counts
-      pub accepted_exactly : (c : UnkCounts) → (r ≡ Accepted c) ↔ ((u : Unk) × UnkFits q.names text u × (c ≡ counts_of u))
+      pub accepted_exactly : (c : UnkCounts) → (r ≡ Ok c) ↔ ((u : Unk) × UnkFits q.names text u × (c ≡ counts_of u))
       accepted_exactly c = (to, from)
         where
-          to : r ≡ Accepted c → (u : Unk) × UnkFits q.names text u × (c ≡ counts_of u)
+          to : r ≡ Ok c → (u : Unk) × UnkFits q.names text u × (c ≡ counts_of u)
           to e =
               let (u, a, d) = accepted_is (read_unk q.names text) c (sym e ∙ p.answer ∙ ap given answered_so) in
               (u, (unk_accepts q.names text u).0 a, d)
 
-          from : (u : Unk) × UnkFits q.names text u × (c ≡ counts_of u) → r ≡ Accepted c
-          from (u, f, d) = p.answer ∙ ap given (answered_so ∙ (unk_accepts q.names text u).1 f) ∙ ap Accepted (sym d)
+          from : (u : Unk) × UnkFits q.names text u × (c ≡ counts_of u) → r ≡ Ok c
+          from (u, f, d) = p.answer ∙ ap given (answered_so ∙ (unk_accepts q.names text u).1 f) ∙ ap Ok (sym d)
 
       -- a refused text has exactly this number and place
-      pub refused_exactly : (x : Refusal) → (r ≡ Refused x) ↔ UnkRefused text x.number x.place
+      pub refused_exactly : (x : Refusal) → (r ≡ Err x) ↔ UnkRefused text x.number x.place
       refused_exactly x = (
         λ e. (unk_refused_exactly q.names text x.number x.place).0 (refused_is (read_unk q.names text) x (sym e ∙ p.answer ∙ ap given answered_so)),
         λ b. p.answer ∙ ap given (answered_so ∙ (unk_refused_exactly q.names text x.number x.place).1 b),
@@ -175,7 +174,7 @@ past_cleared lent h =
     tables_is (past lent) _ _ _ _ _ (past_zero entries_size lent.entries h.first) (past_zero offsets_size lent.offsets h.second)
     (past_zero max_detail_bytes lent.details h.third) (past_zero places_size lent.places h.fourth) (past_zero members_size lent.members h.fifth)
 
-pub past_kept : {t : Tables} {n : Counts} {text : List ℕ} {lent after : UnkTables} {r : UnkOutcome} → ParsesUnk t n text lent after r → past after ≡ past lent
+pub past_kept : {t : Tables} {n : Counts} {text : List ℕ} {lent after : UnkTables} {r : Result UnkCounts Refusal} → ParsesUnk t n text lent after r → past after ≡ past lent
 unfolding leaves
 past_kept {t} {n} {text} {lent} {after} p = by_test (has_room lent) (λ room. by_reading room (handed_in t n) refl) (λ e. ap past (short_exactly p e).1)
   where

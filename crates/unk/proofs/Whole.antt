@@ -31,15 +31,14 @@ use Rattle.paper.proofs.Tables.Trip.{says}
 use Rattle.paper.proofs.Text.Code.{decode_complete, well_formed}
 use Rattle.paper.proofs.Unk.Refused.{unk_first_bad, unk_refused_exactly}
 use Rattle.unk_enter.specs.declared.UnkCounts.{UnkCounts}
-use Rattle.unk.specs.declared.UnkOutcome.{UnkOutcome}
-use Rattle.unk.specs.declared.Judged.{Judged}
-use Rattle.unk.specs.declared.UnkOutcome.TheVariants.{Accepted, Refused}
 use Rattle.unk.specs.Layout.{UnkTables}
 use Rattle.unk_enter.specs.Lines.{mark_in}
 use Rattle.unk.specs.Parse.{entries_size, offsets_size, places_size, members_size, has_room, over_reading, answer_to, counts_of, given, in_room, past, behind, cleared, leaves, ParsesUnk}
 use Rattle.unk.specs.Filled.{LinesRead, Judges, SoundInput, UnsoundInput}
 use Rattle.unk.proofs.Room.{room_in, cleared_is}
 use Rattle.unk.proofs.Laid.{Named, laid_out_is}
+use Rattle.std.specs.Prelude.{Err, Ok, Result}
+use Rattle.paper.specs.declared.Refusal.{Refusal}
 
 -- ---- a reading's names
 
@@ -117,7 +116,7 @@ module _ (t : Tables) (n : Counts) (text : List ℕ) where
           let e : p ≡ length text = omega arith in
           record { holding = h; short = short; formed = subst WellFormed (ap (λ k. take k text) e ∙ take-length text) z.fits }
 
-pub judged_as : (t : Tables) (n : Counts) (text : List ℕ) (s : Judged) {r : Judged} → r ≡ s → Judges t n text r → Judges t n text s
+pub judged_as : (t : Tables) (n : Counts) (text : List ℕ) (s : Result Unit Refusal) {r : Result Unit Refusal} → r ≡ s → Judges t n text r → Judges t n text s
 judged_as t n text s e h = subst (Judges t n text) e h
 
 -- ---- the lines
@@ -161,7 +160,7 @@ module _ (t : Tables) (n : Counts) (text : List ℕ) (lent : UnkTables) where
   unfolding answer_to
   has_answer e = ap (λ b. cond b (over_reading (handed_in t n) text) (refused room_short 0)) e
 
-  unchanged : (k place : ℕ) → answer_to t n text lent ≡ refused k place → clears k ≡ false → ParsesUnk t n text lent lent (Refused (record { number = k; place = place }))
+  unchanged : (k place : ℕ) → answer_to t n text lent ≡ refused k place → clears k ≡ false → ParsesUnk t n text lent lent (Err (record { number = k; place = place }))
   unfolding leaves
   unchanged k place e h =
       record {
@@ -169,12 +168,12 @@ module _ (t : Tables) (n : Counts) (text : List ℕ) (lent : UnkTables) where
         memory = sym (ap (λ x. leaves x lent) e ∙ ap (λ b. cond b (cleared lent) lent) h);
       }
 
-  pub short_room : false ≡ has_room lent → ParsesUnk t n text lent lent (Refused (record { number = room_short; place = 0 }))
+  pub short_room : false ≡ has_room lent → ParsesUnk t n text lent lent (Err (record { number = room_short; place = 0 }))
   unfolding clears
   short_room e = unchanged room_short 0 (short_answer (sym e)) refl
 
   module _ (room : true ≡ has_room lent) where
-    pub unsound : (k place : ℕ) → UnsoundInput t n text k place → ParsesUnk t n text lent lent (Refused (record { number = k; place = place }))
+    pub unsound : (k place : ℕ) → UnsoundInput t n text k place → ParsesUnk t n text lent lent (Err (record { number = k; place = place }))
     unsound k place u = unchanged k place (has_answer (sym room) ∙ u.is) u.kept
 
     module _ (s : SoundInput t n text) where
@@ -185,16 +184,16 @@ module _ (t : Tables) (n : Counts) (text : List ℕ) (lent : UnkTables) where
       unfolding names
       by_lines = has_answer (sym room) ∙ over t n text s.holding ∙ lines_answer (decoded t n).names text s.short s.formed
 
-      into : (part after : UnkTables) → after ≡ behind part (past lent) → (r : UnkOutcome)
+      into : (part after : UnkTables) → after ≡ behind part (past lent) → (r : Result UnkCounts Refusal)
           → LinesRead (mark_in t.names t.categories n.categories) n.categories (read_entries 1 (unk_lines text)) part r → ParsesUnk t n text lent after r
       unfolding leaves names
-      into part after e (Accepted c) z =
+      into part after e (Ok c) z =
           let i : answer_to t n text lent ≡ accepted (unk_of names z.entries) = by_lines ∙ ap (answer_unk names) z.is in
           record {
-            answer = ap Accepted (counted names z.entries c z.entries_counted z.bytes_counted) ∙ ap given (sym i);
+            answer = ap Ok (counted names z.entries c z.entries_counted z.bytes_counted) ∙ ap given (sym i);
             memory = e ∙ ap (λ x. behind x (past lent)) (z.tables ∙ ap in_room (laid_out_is (named t n s.holding) z.entries)) ∙ ap (λ x. leaves x lent) (sym i);
           }
-      into part after e (Refused x) z =
+      into part after e (Err x) z =
           let i : answer_to t n text lent ≡ refused x.number x.place = by_lines ∙ ap (answer_unk names) z.is in
           record {
             answer = ap given (sym i);
@@ -203,7 +202,7 @@ module _ (t : Tables) (n : Counts) (text : List ℕ) (lent : UnkTables) where
           }
 
       -- what lies past the sizes stays behind the parts that were lent
-      pub lines_parsed : (part : UnkTables) (r : UnkOutcome)
+      pub lines_parsed : (part : UnkTables) (r : Result UnkCounts Refusal)
           → LinesRead (mark_in t.names t.categories n.categories) n.categories (read_entries 1 (unk_lines text)) part r
           → ParsesUnk t n text lent
           (record {

@@ -13,14 +13,12 @@ use Rattle.paper.specs.Tables.Layout.{Tables}
 use Rattle.paper.specs.Tables.Reader.{clears}
 use Rattle.paper.specs.declared.Counts.{Counts}
 use Rattle.unk_enter.specs.declared.UnkCounts.{UnkCounts}
-use Rattle.unk.specs.declared.UnkOutcome.{UnkOutcome}
-use Rattle.unk.specs.declared.UnkOutcome.TheVariants.{Accepted, Refused}
-use Rattle.unk.specs.declared.Judged.{Judged}
-use Rattle.unk.specs.declared.Judged.TheVariants.{Sound, Unsound}
 use Rattle.unk.specs.Layout.{UnkTables}
 use Rattle.unk_enter.specs.Lines.{entry_bytes}
 use Rattle.unk_members.specs.Members.{lists_from, place_table, member_table}
 use Rattle.unk.specs.Parse.{in_room, over_reading, entries_size, offsets_size, places_size, members_size}
+use Rattle.std.specs.Prelude.{Err, Ok, Result}
+use Rattle.paper.specs.declared.Refusal.{Refusal}
 
 pub record Sized (t : UnkTables) : Type 0 where
   pub entries : length t.entries ≡ entries_size
@@ -56,17 +54,17 @@ pub record LinesAccepted (mark : List ℕ → ℕ) (count : ℕ) (a : Entries) (
   pub tables : after ≡ in_room (laid_out mark count entries)
 
 -- nothing is said of the tables where the walk stopped
-abbrev pub TablesFilled : (List ℕ → ℕ) → ℕ → Entries → UnkTables → UnkOutcome → Type 0
-TablesFilled mark count a after (Accepted c) = LinesAccepted mark count a after c
-TablesFilled mark count a after (Refused x) = a ≡ stops x.number x.place
+abbrev pub TablesFilled : (List ℕ → ℕ) → ℕ → Entries → UnkTables → Result UnkCounts Refusal → Type 0
+TablesFilled mark count a after (Ok c) = LinesAccepted mark count a after c
+TablesFilled mark count a after (Err x) = a ≡ stops x.number x.place
 
 pub record LinesRefused (a : Entries) (after : UnkTables) (number place : ℕ) : Type 0 where
   pub is : a ≡ stops number place
   pub tables : after ≡ in_room no_tables
 
-abbrev pub LinesRead : (List ℕ → ℕ) → ℕ → Entries → UnkTables → UnkOutcome → Type 0
-LinesRead mark count a after (Accepted c) = LinesAccepted mark count a after c
-LinesRead mark count a after (Refused x) = LinesRefused a after x.number x.place
+abbrev pub LinesRead : (List ℕ → ℕ) → ℕ → Entries → UnkTables → Result UnkCounts Refusal → Type 0
+LinesRead mark count a after (Ok c) = LinesAccepted mark count a after c
+LinesRead mark count a after (Err x) = LinesRefused a after x.number x.place
 
 -- ---- before any line: 26, 2, 3
 
@@ -79,6 +77,6 @@ pub record UnsoundInput (t : Tables) (n : Counts) (text : List ℕ) (number plac
   pub is : over_reading (handed_in t n) text ≡ refused number place
   pub kept : clears number ≡ false
 
-abbrev pub Judges : Tables → Counts → List ℕ → Judged → Type 0
-Judges t n text Sound = SoundInput t n text
-Judges t n text (Unsound x) = UnsoundInput t n text x.number x.place
+abbrev pub Judges : Tables → Counts → List ℕ → Result Unit Refusal → Type 0
+Judges t n text (Ok unit) = SoundInput t n text
+Judges t n text (Err x) = UnsoundInput t n text x.number x.place

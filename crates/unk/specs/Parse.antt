@@ -15,10 +15,10 @@ use Rattle.paper.specs.Tables.Lent.{padded, zeroed}
 use Rattle.paper.specs.Tables.Reader.{clears}
 use Rattle.paper.specs.declared.Counts.{Counts}
 use Rattle.unk_enter.specs.declared.UnkCounts.{UnkCounts}
-use Rattle.unk.specs.declared.UnkOutcome.{UnkOutcome}
-use Rattle.unk.specs.declared.UnkOutcome.TheVariants.{Accepted, Refused}
 use Rattle.unk.specs.Layout.{UnkTables, layout}
 use Rattle.unk_enter.specs.Fields.{entry_size, offset_size}
+use Rattle.std.specs.Prelude.{Err, Ok, Result}
+use Rattle.paper.specs.declared.Refusal.{Refusal}
 
 -- ---- sizes in bytes
 
@@ -57,9 +57,9 @@ unfoldable pub counts_of : Unk → UnkCounts
 counts_of u = record { entries = length u.word_entries; bytes = length u.store }
 
 -- the case of the enum for each answer of the paper
-abbrev pub given : UnkAnswer → UnkOutcome
-given (accepted u) = Accepted (counts_of u)
-given (refused number place) = Refused (record { number = number; place = place })
+abbrev pub given : UnkAnswer → Result UnkCounts Refusal
+given (accepted u) = Ok (counts_of u)
+given (refused number place) = Err (record { number = number; place = place })
 
 -- ---- lent memory afterwards
 
@@ -114,6 +114,6 @@ leaves (refused number place) t = cond (clears number) (cleared t) t
 
 -- ---- both together
 
-pub record ParsesUnk (reading : Tables) (n : Counts) (text : List ℕ) (lent after : UnkTables) (r : UnkOutcome) : Type 0 where
+pub record ParsesUnk (reading : Tables) (n : Counts) (text : List ℕ) (lent after : UnkTables) (r : Result UnkCounts Refusal) : Type 0 where
   pub answer : r ≡ given (answer_to reading n text lent)
   pub memory : after ≡ leaves (answer_to reading n text lent) lent

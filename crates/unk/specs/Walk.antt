@@ -5,8 +5,8 @@ use Rattle.paper.specs.Unk.Entry.{Entry}
 use Rattle.paper.specs.Computed.ReadUnk.{drop_cr, Entries, entries_are, stops}
 use Rattle.unk_enter.specs.declared.UnkCounts.{UnkCounts}
 use Rattle.unk_enter.specs.Lines.{Memory, Held}
-use Rattle.unk.specs.declared.UnkOutcome.{UnkOutcome}
-use Rattle.unk.specs.declared.UnkOutcome.TheVariants.{Accepted, Refused}
+use Rattle.std.specs.Prelude.{Err, Ok, Result}
+use Rattle.paper.specs.declared.Refusal.{Refusal}
 
 -- where a line stops: one CR before LF is dropped
 pub record LineStops (text : List ℕ) (start end stop : ℕ) : Type 0 where
@@ -21,6 +21,6 @@ pub record WalkEnded (mark : List ℕ → ℕ) (a : Entries) (m : Memory) (c : U
   pub is : a ≡ entries_are entries
   pub held : Held mark entries m c
 
-abbrev pub Walked : (List ℕ → ℕ) → Entries → Memory → UnkOutcome → Type 0
-Walked mark a m (Accepted c) = WalkEnded mark a m c
-Walked mark a m (Refused x) = a ≡ stops x.number x.place
+abbrev pub Walked : (List ℕ → ℕ) → Entries → Memory → Result UnkCounts Refusal → Type 0
+Walked mark a m (Ok c) = WalkEnded mark a m c
+Walked mark a m (Err x) = a ≡ stops x.number x.place

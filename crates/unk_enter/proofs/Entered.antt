@@ -20,13 +20,13 @@ use Rattle.paper.proofs.Unk.Details.{entry_short, stored_length}
 use Rattle.paper.proofs.Unk.Line.{unk_line}
 use Rattle.unk_line.specs.declared.UnkEntry.{UnkEntry}
 use Rattle.unk_line.specs.Line.{SaysLine, SaysEntry, entry_at, joined_fields, stored_fields}
-use Rattle.unk_line.specs.declared.UnkLine.{UnkLine}
 use Rattle.unk_line.proofs.Joined.{joined_long}
 use Rattle.unk_enter.specs.declared.UnkCounts.{UnkCounts}
 use Rattle.unk_enter.specs.Fields.{entry_size, offset_size, word_bytes}
 use Rattle.unk_enter.specs.Lines.{Inside, Memory, Placed, RoomLeft, Appended, entry_bytes, Held, Asked, Went}
+use Rattle.std.specs.Prelude.{Result}
 
-pub says_as : (text : List ℕ) (start end : ℕ) (f : UnkFound) (s : UnkLine) {r : UnkLine} → r ≡ s → SaysLine text start end f r → SaysLine text start end f s
+pub says_as : (text : List ℕ) (start end : ℕ) (f : UnkFound) (s : Result UnkEntry ℕ) {r : Result UnkEntry ℕ} → r ≡ s → SaysLine text start end f r → SaysLine text start end f s
 says_as text start end f s e h = subst (SaysLine text start end f) e h
 
 -- ---- one more element

@@ -19,9 +19,8 @@ use Rattle.paper.proofs.Rows.Lowest.{lowest_first}
 use Rattle.paper.proofs.Tables.Laws.{pieces_length}
 use Rattle.by_name.specs.Lookup.{said, FindsCategory}
 use Rattle.paper.specs.declared.Refusal.{Refusal}
-use Rattle.by_name.specs.declared.CategoryFound.{CategoryFound}
-use Rattle.by_name.specs.declared.CategoryFound.TheVariants.{Category, Absent, Refused}
 use Rattle.unk_enter.specs.Lines.{Inside, mark_said, mark_in}
+use Rattle.std.specs.Prelude.{Err, None, Ok, Option, Result, Some}
 
 module _ (store table : List ℕ) (count : ℕ) (name : List ℕ) where
   named_long : length (map (name_in store) (name_slots_of table count)) ≡ count
@@ -46,22 +45,22 @@ part_is text start end w =
     let e : start + (end - start) ≡ end = omega arith in
     take_part start (end - start) text ∙ ap (λ n. drop start (take n text)) e
 
-module _ (store table : List ℕ) (count : ℕ) (text : List ℕ) (start end : ℕ) (w : Inside text start end) {r : CategoryFound}
+module _ (store table : List ℕ) (count : ℕ) (text : List ℕ) (start end : ℕ) (w : Inside text start end) {r : Result (Option ℕ) Refusal}
     (f : FindsCategory store table count (take (end - start) (drop start text)) r) where
   found : said r ≡ find_name store table count (drop start (take end text))
   found = f.answer ∙ ap (find_name store table count) (part_is text start end w)
 
-  pub mark_below : (i : ℕ) → r ≡ Category i → i < count
+  pub mark_below : (i : ℕ) → r ≡ Ok (Some i) → i < count
   mark_below i e = found_below store table count (drop start (take end text)) i (sym found ∙ ap said e)
 
-  pub mark_category : (i : ℕ) → r ≡ Category i → i + 1 ≡ mark_in store table count (drop start (take end text))
+  pub mark_category : (i : ℕ) → r ≡ Ok (Some i) → i + 1 ≡ mark_in store table count (drop start (take end text))
   unfolding mark_in
   mark_category i e = add-one i ∙ ap mark_said (sym (ap said e) ∙ found)
 
-  pub mark_absent : r ≡ Absent → 0 ≡ mark_in store table count (drop start (take end text))
+  pub mark_absent : r ≡ (Ok None) → 0 ≡ mark_in store table count (drop start (take end text))
   unfolding mark_in
   mark_absent e = ap mark_said (sym (ap said e) ∙ found)
 
-  pub mark_refused : (x : Refusal) → r ≡ Refused x → 0 ≡ mark_in store table count (drop start (take end text))
+  pub mark_refused : (x : Refusal) → r ≡ Err x → 0 ≡ mark_in store table count (drop start (take end text))
   unfolding mark_in
   mark_refused x e = ap mark_said (sym (ap said e) ∙ found)

@@ -13,9 +13,8 @@ use Rattle.paper.specs.Computed.ReadUnk.{UnkFound, entry, Entries, stops, enter_
 use Rattle.unk_line.specs.declared.UnkEntry.{UnkEntry}
 use Rattle.unk_line.specs.Line.{stored_fields}
 use Rattle.unk_enter.specs.declared.UnkCounts.{UnkCounts}
-use Rattle.unk_enter.specs.declared.LineStep.{LineStep}
-use Rattle.unk_enter.specs.declared.LineStep.TheVariants.{Next, Stop}
 use Rattle.unk_enter.specs.Fields.{entry_size, offset_size, word_bytes}
+use Rattle.std.specs.Prelude.{Err, Ok, Result}
 
 -- a part of a text
 pub record Inside (text : List ℕ) (start end : ℕ) : Type 0 where
@@ -95,7 +94,7 @@ pub record Went (mark : List ℕ → ℕ) (es : List Entry) (f : UnkFound) (m : 
   pub held : Held mark (es ++ (one ∷ [])) m c
 
 -- a line was entered as the paper enters it: line k is entry k
-abbrev pub Stepped : (List ℕ → ℕ) → UnkFound → Memory → UnkCounts → Memory → LineStep → Type 0
-Stepped mark f m c m' (Next d) = (es : List Entry) → Held mark es m c → Went mark es f m' d
-Stepped mark f m c m' (Stop k) =
+abbrev pub Stepped : (List ℕ → ℕ) → UnkFound → Memory → UnkCounts → Memory → Result UnkCounts ℕ → Type 0
+Stepped mark f m c m' (Ok d) = (es : List Entry) → Held mark es m c → Went mark es f m' d
+Stepped mark f m c m' (Err k) =
     (es : List Entry) → Held mark es m c → (go : ℕ → Entries) → enter_unk (suc (length es)) f go ≡ stops k (suc (length es))

@@ -10,9 +10,9 @@ ghost use Rattle.unk_line.specs.Line.{joined_fields, as_joined, stored_fields};
 ghost use Rattle.unk_enter.specs.Fields.{entry_size, word_bytes};
 ghost use Rattle.unk_enter.specs.Lines.{Inside, mark_in, Placed, RoomLeft, Appended, Asked, Working, Stepped};
 
-use by_name::CategoryFound;
+use hold::Reading;
 use paper::{MAX_UNK_ENTRIES, UNK_ENTRIES_FULL};
-use unk_line::{UnkEntry, UnkLine};
+use unk_line::UnkEntry;
 
 const COMMA: u8 = b',';
 
@@ -39,12 +39,6 @@ pub struct UnkCounts {
     pub bytes: usize,
 }
 
-#[derive(Drop)]
-pub enum LineStep {
-    Next(UnkCounts),
-    Stop(u32),
-}
-
 fn joined_byte(b: u8) -> u8
     ensures { result ≡ as_joined b }
 {
@@ -61,10 +55,8 @@ fn copy_joined(text: &[u8], start: usize, end: usize, details: &mut [u8], at: us
     ensures { details.new ≡ patch at (joined_fields (drop start (take end text.now))) details.old }
 {
     let len = end - start;
-    let mut i = 0;
-    while i < len {
+    for i in 0..len {
         details[at + i] = joined_byte(text[start + i]);
-        i += 1;
     }
 }
 
@@ -92,30 +84,27 @@ fn put_entry(entries: &mut [u8], n: usize, left: u16, right: u16, cost: u16, mar
 }
 
 // The number of the category whose name stands in the text from `start` to `end`, and 1; 0 where none has that name.
-fn mark_of(
-    names: &[u8],
-    categories: &[u8],
-    count: usize,
-    text: &[u8],
-    start: usize,
-    end: usize,
-) -> u16
+fn mark_of(reading: &Reading, text: &[u8], start: usize, end: usize) -> u16
     requires inside { Inside text.now start end }
-    requires count_le_max_categories { count ≤ max_categories }
-    ensures { result ≡ mark_in names.now categories.now count (drop start (take end text.now)) }
+    requires count_le_max_categories { reading.now.counts.categories ≤ max_categories }
+    ensures { result ≡ mark_in reading.now.names.now reading.now.categories.now reading.now.counts.categories (drop start (take end text.now)) }
 {
-    match by_name::find_category(names, categories, count, &text[start..end]) {
-        CategoryFound::Category(i) => (i + 1) as u16,
-        CategoryFound::Absent => 0,
-        CategoryFound::Refused(_) => 0,
+    let name = &text[start..end];
+    match by_name::find_category(
+        reading.names,
+        reading.categories,
+        reading.counts.categories,
+        name,
+    ) {
+        Ok(Some(i)) => (i + 1) as u16,
+        Ok(None) => 0,
+        Err(_) => 0,
     }
 }
 
 // The line's entry behind the others.
 fn append_entry(
-    names: &[u8],
-    categories: &[u8],
-    count: usize,
+    reading: &Reading,
     text: &[u8],
     start: usize,
     end: usize,
@@ -126,15 +115,15 @@ fn append_entry(
     counts: UnkCounts,
 ) -> UnkCounts
     requires placed { Placed text.now start end e }
-    requires count_le_max_categories { count ≤ max_categories }
+    requires count_le_max_categories { reading.now.counts.categories ≤ max_categories }
     requires room_left { RoomLeft (record { entries = entries.old; offsets = offsets.old; details = details.old }) counts (end - e.details) }
-    ensures { Appended (mark_in names.now categories.now count) text.now start end e (record { entries = entries.old; offsets = offsets.old; details = details.old }) counts (record { entries = entries.new; offsets = offsets.new; details = details.new }) result }
+    ensures { Appended (mark_in reading.now.names.now reading.now.categories.now reading.now.counts.categories) text.now start end e (record { entries = entries.old; offsets = offsets.old; details = details.old }) counts (record { entries = entries.new; offsets = offsets.new; details = details.new }) result }
 {
     let n = counts.entries;
     let used = counts.bytes;
     let surface = e.surface;
     let from = e.details;
-    let mark = mark_of(names, categories, count, text, start, surface);
+    let mark = mark_of(reading, text, start, surface);
     put_entry(entries, n, e.left, e.right, e.cost, mark);
     table::put_u32(offsets, OFFSET_BYTES * n, used as u32);
     put_details(text, from, end, details, used);
@@ -144,11 +133,9 @@ fn append_entry(
     }
 }
 
-// The line from `start` to `end` entered: 23 and 24 before 25.
+// The line from `start` to `end` entered: 23 and 24 before 25, as numbers, which `Stepped` gives to the paper's refusals.
 pub fn enter_line(
-    names: &[u8],
-    categories: &[u8],
-    count: usize,
+    reading: &Reading,
     text: &[u8],
     start: usize,
     end: usize,
@@ -156,21 +143,17 @@ pub fn enter_line(
     offsets: &mut [u8],
     details: &mut [u8],
     counts: UnkCounts,
-) -> LineStep
+) -> Result<UnkCounts, u32>
     requires inside { Inside text.now start end }
-    requires asked { Asked count end start counts }
-    requires working { Working (mark_in names.now categories.now count) (record { entries = entries.old; offsets = offsets.old; details = details.old }) counts }
-    ensures { Stepped (mark_in names.now categories.now count) (unk_line_of (drop start (take end text.now))) (record { entries = entries.old; offsets = offsets.old; details = details.old }) counts (record { entries = entries.new; offsets = offsets.new; details = details.new }) result }
+    requires asked { Asked reading.now.counts.categories end start counts }
+    requires working { Working (mark_in reading.now.names.now reading.now.categories.now reading.now.counts.categories) (record { entries = entries.old; offsets = offsets.old; details = details.old }) counts }
+    ensures { Stepped (mark_in reading.now.names.now reading.now.categories.now reading.now.counts.categories) (unk_line_of (drop start (take end text.now))) (record { entries = entries.old; offsets = offsets.old; details = details.old }) counts (record { entries = entries.new; offsets = offsets.new; details = details.new }) result }
 {
-    match unk_line::parse_dictionary_entry(text, start, end) {
-        UnkLine::NoEntry(k) => LineStep::Stop(k),
-        UnkLine::Entry(e) => {
-            if MAX_UNK_ENTRIES <= counts.entries {
-                return LineStep::Stop(UNK_ENTRIES_FULL);
-            }
-            LineStep::Next(append_entry(
-                names, categories, count, text, start, end, e, entries, offsets, details, counts,
-            ))
-        }
+    let e = unk_line::parse_dictionary_entry(text, start, end)?;
+    if MAX_UNK_ENTRIES <= counts.entries {
+        return Err(UNK_ENTRIES_FULL);
     }
+    Ok(append_entry(
+        reading, text, start, end, e, entries, offsets, details, counts,
+    ))
 }

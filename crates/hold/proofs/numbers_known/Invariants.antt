@@ -1,5 +1,5 @@
 -- `hold::numbers_known` meets its contract: the numbers that are left are tested as all are. Assumes nothing.
-use Prim.Native.Nat.{◌≤◌, ◌-◌}
+use Prim.Native.Nat.{◌≤◌}
 use mathlib.Core.Path.{◌≡◌}
 use mathlib.Core.List.{map}
 use lib.Dec.{ltb}
@@ -13,6 +13,3 @@ use Rattle.hold.proofs.numbers_known.Given as goal
 abbrev pub invariant-loop-i : goal.invariant-loop-i
 invariant-loop-i l =
     (l.i ≤ l.n) × (all (is_known l.known) (left 2 l.n l.i l.references) ≡ all (λ c. ltb c l.known) (map (num 2 0) (pieces 2 l.n l.references)))
-
-abbrev pub decreases-loop-i : goal.decreases-loop-i
-decreases-loop-i l = l.n - l.i

@@ -1,5 +1,4 @@
 -- `pack_body::read_definitions` meets its contract. Assumes nothing.
-use Prim.Native.Nat.{◌-◌}
 use Rattle.paper.specs.Pack.Fields.{definition_width}
 use Rattle.paper.specs.Computed.ReadPack.{read_definition}
 use Rattle.paper.specs.Tables.Layout.{definition_bytes, definition_size}
@@ -8,7 +7,4 @@ use Rattle.pack_body.proofs.read_definitions.Given as goal
 
 abbrev pub invariant-loop-i : goal.invariant-loop-i
 invariant-loop-i l =
-    Going definition_bytes definition_size read_definition definition_width l.initial.at l.n 0 l.pack l.initial.definitions l.at l.definitions l.i
-
-abbrev pub decreases-loop-i : goal.decreases-loop-i
-decreases-loop-i l = l.n - l.i
+    Going definition_bytes definition_size read_definition definition_width l.initial.cursor.at l.n 0 l.pack l.initial.definitions l.cursor.at l.definitions l.i

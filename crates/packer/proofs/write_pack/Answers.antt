@@ -9,21 +9,21 @@ use Rattle.packer.proofs.Length.{limited}
 use Rattle.packer.proofs.Answer.{apart, short, written}
 use Rattle.packer.proofs.write_pack.Goals as goal
 
-pub returns-then-not-reading_holds : goal.returns-then-not-reading_holds
-returns-then-not-reading_holds c = apart _ _ _ _ (omega arith) (sym c.reading_holds.ensures ∙ not-true _ (search rules))
+pub returns-then-not-holds : goal.returns-then-not-holds
+returns-then-not-holds c = apart _ _ _ _ (omega arith) (sym c.holds.ensures ∙ not-true _ (search rules))
 
 pub pack_length-need-requires : goal.pack_length-need-requires
-pack_length-need-requires c = limited _ _ (asked _ _ (passed _ _ c.reading_holds.ensures (search rules)))
+pack_length-need-requires c = limited _ _ (asked _ _ (passed _ _ c.holds.ensures (search rules)))
 
 pub returns-then-out-need : goal.returns-then-out-need
-returns-then-out-need c = short _ _ _ (passed _ _ c.reading_holds.ensures (search rules)) _ (omega arith) (omega arith)
+returns-then-out-need c = short _ _ _ (passed _ _ c.holds.ensures (search rules)) _ (omega arith) (omega arith)
 
 pub put_pack-requires : goal.put_pack-requires
-put_pack-requires c = record { t = passed _ _ c.reading_holds.ensures (search rules); counts_in_bounds = omega arith }
+put_pack-requires c = record { t = passed _ _ c.holds.ensures (search rules); counts_in_bounds = omega arith }
 
 pub returns : goal.returns
 returns c =
     written _ _ _
-    (passed _ _ c.reading_holds.ensures
+    (passed _ _ c.holds.ensures
     (search rules))
     _ _ c.pack_length-need.ensures (omega arith) c.put_pack.ensures

@@ -657,6 +657,13 @@ module _ (t : Tables) (n : Counts) (h : Parts t n) where
       go ([] ∷ ls) u = absurd u
       go ((a ∷ l) ∷ ls) u = go ls (and_yes (ltb 0 (suc (length l))) _ u).1
 
+-- every number of a reference is a name's
+numbers_known : (t : Tables) (n : Counts) → Parts t n → T (all (λ c. ltb c (length (decoded t n).names)) (numbers_of (decoded t n).ranges))
+unfolding decoded
+numbers_known t n h =
+    subst (λ l. T (all (λ c. ltb c (length (names_in t n))) l)) (sym (ranges_are t n h).again_numbers)
+    (subst (λ m. T (all (λ c. ltb c m) (numbers_in t n))) (sym (count_names (decoded t n) n (counts_are t n h))) h.known)
+
 module _ (t : Tables) (n : Counts) (b : OfBytes t) (h : Parts t n) where
   used_categories : joined (map name_slot_bytes (name_slots 0 (map length (names_in t n)))) ≡ take (name_slot_size * n.categories) t.categories
   unfolding name_slots_in
@@ -701,15 +708,11 @@ module _ (t : Tables) (n : Counts) (b : OfBytes t) (h : Parts t n) where
         single = h.single;
         lengths = lengths_small n.definitions t.definitions b.in_definitions;
         bounds = bounds_are;
-        known = subst (λ l. T (all (λ c. ltb c (length (names_in t n))) l)) (sym (ranges_are t n h).again_numbers)
-            (subst (λ m. T (all (λ c. ltb c m) (numbers_in t n))) (sym (names_count e)) h.known);
+        known = numbers_known t n h;
       }
     where
       bounds_are : T (all (λ g. is_bound g.lower && is_bound g.upper) (ranging (slots_in t n) (numbers_in t n)))
       bounds_are = as_bounded (ranging (slots_in t n) (numbers_in t n)) (ranges_are t n h).in_bounds
-
-      names_count : counts_of (decoded t n) ≡ n → length (names_in t n) ≡ n.categories
-      names_count e = count_names (decoded t n) n e
 
 pub tables_is : (t : Tables) (a b c d e : List ℕ) → a ≡ t.names → b ≡ t.categories → c ≡ t.definitions → d ≡ t.ranges → e ≡ t.references
     → ◌≡◌ {A = Tables} (record { names = a; categories = b; definitions = c; ranges = d; references = e }) t
@@ -725,6 +728,14 @@ pub handed_holds : (t : Tables) (n : Counts) → OfBytes t → T (holds t n) →
 handed_holds t n b u =
     let h = parts t n u in
     record { laid_out = laid t n b h; counted = counts_are t n h; rules = kept (decoded t n) (rules_kept t n b h) }
+
+-- its limits and its numbers, which need no bytes
+pub handed_fits : (t : Tables) (n : Counts) → T (holds t n) → Within (decoded t n) × T (numbered (decoded t n))
+unfolding numbered
+handed_fits t n u =
+    let h = parts t n u in
+    let k = known_together (λ c. ltb c (length (decoded t n).names)) (decoded t n).ranges (numbers_known t n h) in
+    (within_from (decoded t n) n (counts_are t n h) h.long.limits, k)
 
 pub handed_back : (t : Tables) (n : Counts) (r : Reading) → OfBytes t → handed_in t n ≡ some r → HoldTogether t n r
 unfolding handed_in

@@ -7,8 +7,9 @@ use Rattle.paper.specs.Refusals.{room_short, range_parts, name_bytes_full, pack_
 use Rattle.paper.specs.CharDef.Reading.{Answer, accepted, refused}
 use Rattle.paper.specs.Tables.Lent.{zeroed}
 use Rattle.paper.specs.Tables.Layout.{Tables, layout, in_room, behind, counts_of, name_slot_size, definition_size, range_slot_size, reference_size}
-use Rattle.paper.specs.declared.Outcome.{Outcome}
-use Rattle.paper.specs.declared.Outcome.TheVariants.{Accepted, Refused}
+use Rattle.std.specs.Prelude.{Err, Ok, Result}
+use Rattle.paper.specs.declared.Counts.{Counts}
+use Rattle.paper.specs.declared.Refusal.{Refusal}
 
 -- ---- the answer
 
@@ -27,9 +28,9 @@ unfoldable pub in_lent : Tables → Answer → Answer
 in_lent lent a = cond (has_room lent) a (refused room_short 0)
 
 -- the case of the enum for each answer of the paper: accepted with the counts of the reading's lists, refused with number and place
-abbrev pub given : Answer → Outcome
-given (accepted r) = Accepted (counts_of r)
-given (refused number place) = Refused (record { number = number; place = place })
+abbrev pub given : Answer → Result Counts Refusal
+given (accepted r) = Ok (counts_of r)
+given (refused number place) = Err (record { number = number; place = place })
 
 -- ---- lent memory afterwards
 
@@ -68,6 +69,6 @@ leaves (refused number place) t = cond (clears number) (cleared t) t
 
 -- ---- both together, where the paper's answer is a
 
-pub record Reads (a : Answer) (lent after : Tables) (r : Outcome) : Type 0 where
+pub record Reads (a : Answer) (lent after : Tables) (r : Result Counts Refusal) : Type 0 where
   pub answer : r ≡ given (in_lent lent a)
   pub memory : after ≡ leaves (in_lent lent a) lent

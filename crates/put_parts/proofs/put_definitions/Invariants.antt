@@ -1,5 +1,5 @@
 -- `put_parts::put_definitions` meets its contract: before each turn the definitions so far are put. Assumes nothing.
-use Prim.Native.Nat.{◌*◌, ◌-◌, ◌≤◌}
+use Prim.Native.Nat.{◌*◌}
 use mathlib.Core.List.{map}
 use Rattle.paper.specs.Lists.{joined}
 use Rattle.paper.specs.Pack.Fields.{definition_width, definition_fields}
@@ -9,7 +9,4 @@ use Rattle.put_parts.proofs.put_definitions.Given as goal
 
 abbrev pub invariant-loop-i : goal.invariant-loop-i
 invariant-loop-i l =
-    (l.i ≤ l.n) × Puts l.initial.out l.initial.w (joined (map definition_fields (map definition_of (pieces definition_size l.i l.definitions)))) (definition_width * l.i) l.out l.w
-
-abbrev pub decreases-loop-i : goal.decreases-loop-i
-decreases-loop-i l = l.n - l.i
+    Puts l.initial.out l.initial.w (joined (map definition_fields (map definition_of (pieces definition_size l.i l.definitions)))) (definition_width * l.i) l.out l.w

@@ -1,5 +1,5 @@
 -- `put_parts::put_names` meets its contract: before each turn the names so far are put, and `at` is the sum of their lengths. Assumes nothing.
-use Prim.Native.Nat.{◌+◌, ◌*◌, ◌-◌, ◌≤◌}
+use Prim.Native.Nat.{◌+◌, ◌*◌}
 use mathlib.Core.Path.{◌≡◌}
 use mathlib.Core.List.{map}
 use Rattle.paper.specs.Lists.{joined, sum}
@@ -11,9 +11,5 @@ use Rattle.put_parts.proofs.put_names.Given as goal
 
 abbrev pub invariant-loop-i : goal.invariant-loop-i
 invariant-loop-i l =
-    (l.i ≤ l.n)
-    × ((l.at ≡ sum (lengths_in l.i l.categories))
-    × Puts l.initial.out l.initial.w (joined (map name_fields (split (lengths_in l.i l.categories) l.names))) (name_length_width * l.i + byte_width * l.at) l.out l.w)
-
-abbrev pub decreases-loop-i : goal.decreases-loop-i
-decreases-loop-i l = l.n - l.i
+    (l.at ≡ sum (lengths_in l.i l.categories))
+    × Puts l.initial.out l.initial.w (joined (map name_fields (split (lengths_in l.i l.categories) l.names))) (name_length_width * l.i + byte_width * l.at) l.out l.w

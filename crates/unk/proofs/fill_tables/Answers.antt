@@ -2,17 +2,18 @@
 use Rattle.unk.proofs.Fill.{zero_places, zero_members, holds_none, mark_most, marked, filled}
 use Rattle.unk.proofs.fill_tables.Goals as goal
 
-pub walk_lines-requires : goal.walk_lines-requires
-walk_lines-requires c = record { text_len_bound = c.requires.text_len_bound; held = holds_none (c.requires.members_value) _ }
+pub walk_lines-requires-clause-held : goal.walk_lines-requires-clause-held
+walk_lines-requires-clause-held c = holds_none (c.requires.members_value) _
 
-pub list_members-requires : goal.list_members-requires
-list_members-requires c = let a = c.args in record {
-  marked = marked _ _ (mark_most a.names.now a.categories.now a.count) (c.requires.text_len_bound.1) (rw (c.in-Accepted.is) at (c.walk_lines.ensures)).held;
-  places_value = (zero_places (c.requires.members_value), zero_members (c.requires.members_value));
-}
+pub list_members-requires-clause-marked : goal.list_members-requires-clause-marked
+list_members-requires-clause-marked c =
+    let r = c.args.reading.now in
+    marked _ _ (mark_most r.names.now r.categories.now r.counts.categories) (c.requires.text_len_bound.1) c.in_ok-counts.ensures.held
 
-pub returns-in-Refused : goal.returns-in-Refused
-returns-in-Refused c = rw (c.in-Refused.is) at (c.walk_lines.ensures)
+pub list_members-requires-clause-places_value : goal.list_members-requires-clause-places_value
+list_members-requires-clause-places_value c = (zero_places (c.requires.members_value), zero_members (c.requires.members_value))
 
-pub returns-in-Accepted : goal.returns-in-Accepted
-returns-in-Accepted c = let a = c.args in filled _ _ (mark_most a.names.now a.categories.now a.count) (c.requires.text_len_bound.1) (rw (c.in-Accepted.is) at (c.walk_lines.ensures)) _ _ (c.list_members.ensures)
+pub returns : goal.returns
+returns c =
+    let r = c.args.reading.now in
+    filled _ _ (mark_most r.names.now r.categories.now r.counts.categories) (c.requires.text_len_bound.1) c.in_ok-counts.ensures _ _ (c.list_members.ensures)

@@ -12,23 +12,23 @@ line_stop-stop-requires c = line_inside _ _ _ (c.loop-at-test.true) (c.find_byte
 pub enter_line-requires : goal.enter_line-requires
 enter_line-requires c = record { inside = stop_inside (c.loop-at.invariant) (c.loop-at-test.true) (c.find_byte-end.result) (c.find_byte-end.ensures) (c.line_stop-stop.result) (c.line_stop-stop.ensures); asked = walk_asked (c.loop-at.invariant) (c.loop-at-test.true) (c.find_byte-end.result) (c.find_byte-end.ensures) (c.line_stop-stop.result) (c.line_stop-stop.ensures) _ (c.requires.text_len_bound.1); working = working (c.loop-at.invariant) }
 
-pub shape_of-entries-in-Stop : goal.shape_of-entries-in-Stop
-shape_of-entries-in-Stop c = let a = entries_long (c.loop-at.invariant.held) in let b = entries_long (c.requires.held) in omega arith
+pub shape_of-entries-in-Err : goal.shape_of-entries-in-Err
+shape_of-entries-in-Err c = let a = entries_long (c.loop-at.invariant.held) in let b = entries_long (c.requires.held) in omega arith
 
-pub shape_of-offsets-in-Stop : goal.shape_of-offsets-in-Stop
-shape_of-offsets-in-Stop c = let a = offsets_long (c.loop-at.invariant.held) in let b = offsets_long (c.requires.held) in omega arith
+pub shape_of-offsets-in-Err : goal.shape_of-offsets-in-Err
+shape_of-offsets-in-Err c = let a = offsets_long (c.loop-at.invariant.held) in let b = offsets_long (c.requires.held) in omega arith
 
-pub shape_of-details-in-Stop : goal.shape_of-details-in-Stop
-shape_of-details-in-Stop c = let a = details_long (c.loop-at.invariant.held) in let b = details_long (c.requires.held) in omega arith
+pub shape_of-details-in-Err : goal.shape_of-details-in-Err
+shape_of-details-in-Err c = let a = details_long (c.loop-at.invariant.held) in let b = details_long (c.requires.held) in omega arith
 
-pub returns-in-Stop : goal.returns-in-Stop
-returns-in-Stop c = walk_stops (c.loop-at.invariant) (c.loop-at-test.true) (c.find_byte-end.result) (c.find_byte-end.ensures) (c.line_stop-stop.result) (c.line_stop-stop.ensures) (c.in-Stop.number) (rw (c.in-Stop.is) at (c.enter_line.ensures))
+pub returns-in-Err : goal.returns-in-Err
+returns-in-Err c = walk_stops (c.loop-at.invariant) (c.loop-at-test.true) (c.find_byte-end.result) (c.find_byte-end.ensures) (c.line_stop-stop.result) (c.line_stop-stop.ensures) (c.in-Err.number) (rw (c.in-Err.is) at (c.enter_line.ensures))
 
 pub overflow_add-at : goal.overflow_add-at
 overflow_add-at c = let i = (line_inside c.args.text.now (c.loop-at.at) (c.find_byte-end.result) (c.loop-at-test.true) (c.find_byte-end.ensures)).within in let s = c.loop-at.invariant.small in omega arith
 
 pub loop-at-preserved : goal.loop-at-preserved
-loop-at-preserved c = walk_on (c.loop-at.invariant) (c.loop-at-test.true) (c.find_byte-end.result) (c.find_byte-end.ensures) (c.line_stop-stop.result) (c.line_stop-stop.ensures) _ (c.in-Next.more) (rw (c.in-Next.is) at (c.enter_line.ensures))
+loop-at-preserved c = walk_on (c.loop-at.invariant) (c.loop-at-test.true) (c.find_byte-end.result) (c.find_byte-end.ensures) (c.line_stop-stop.result) (c.line_stop-stop.ensures) _ (c.in-Ok.more) (rw (c.in-Ok.is) at (c.enter_line.ensures))
 
 pub shape_of-entries : goal.shape_of-entries
 shape_of-entries c = let a = entries_long (c.loop-at.invariant.held) in let b = entries_long (c.requires.held) in omega arith

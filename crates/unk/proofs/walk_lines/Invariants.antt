@@ -7,7 +7,7 @@ use Rattle.unk.proofs.walk_lines.Given as goal
 
 abbrev pub invariant-loop-at : goal.invariant-loop-at
 invariant-loop-at l =
-    Walking (mark_in l.names l.categories l.count) l.text (record { entries = l.entries; offsets = l.offsets; details = l.details }) l.counts l.at
+    Walking (mark_in l.reading.names.now l.reading.categories.now l.reading.counts.categories) l.text (record { entries = l.entries; offsets = l.offsets; details = l.details }) l.counts l.at
 
 abbrev pub decreases-loop-at : goal.decreases-loop-at
 decreases-loop-at l =

@@ -6,6 +6,3 @@ use Rattle.unk_enter.proofs.copy_joined.Given as goal
 
 abbrev pub invariant-loop-i : goal.invariant-loop-i
 invariant-loop-i l = (l.len ≡ l.end - l.start) × Copying l.text l.initial.details l.details l.start l.end l.at l.i
-
-abbrev pub decreases-loop-i : goal.decreases-loop-i
-decreases-loop-i l = l.len - l.i

@@ -1,7 +1,7 @@
--- `hold::is_enough` meets its contract: each comparison alone refuses. Assumes nothing.
+-- `hold::Reading::is_enough` meets its contract: each comparison alone refuses. Assumes nothing.
 use native.Mathlib.Omega.{arith}
 use Rattle.hold.proofs.Enough.{not_enough, is_enough}
-use Rattle.hold.proofs.is_enough.Goals as goal
+use Rattle.hold.proofs.Reading.is_enough.Goals as goal
 
 pub returns-then-n-gt-MAX_CATEGORIES : goal.returns-then-n-gt-MAX_CATEGORIES
 returns-then-n-gt-MAX_CATEGORIES c = not_enough _ _ _ _ _ _ (λ h. omega arith)
@@ -18,20 +18,20 @@ returns-then-n-gt-MAX_RANGES c = not_enough _ _ _ _ _ _ (λ h. omega arith)
 pub returns-then-n-gt-MAX_REFERENCES : goal.returns-then-n-gt-MAX_REFERENCES
 returns-then-n-gt-MAX_REFERENCES c = not_enough _ _ _ _ _ _ (λ h. omega arith)
 
-pub returns-then-names-n : goal.returns-then-names-n
-returns-then-names-n c = not_enough _ _ _ _ _ _ (λ h. omega arith)
+pub returns-then-self-n : goal.returns-then-self-n
+returns-then-self-n c = not_enough _ _ _ _ _ _ (λ h. omega arith)
 
-pub returns-then-categories-n : goal.returns-then-categories-n
-returns-then-categories-n c = not_enough _ _ _ _ _ _ (λ h. omega arith)
+pub returns-then-self-n-2 : goal.returns-then-self-n-2
+returns-then-self-n-2 c = not_enough _ _ _ _ _ _ (λ h. omega arith)
 
-pub returns-then-definitions-n : goal.returns-then-definitions-n
-returns-then-definitions-n c = not_enough _ _ _ _ _ _ (λ h. omega arith)
+pub returns-then-self-n-3 : goal.returns-then-self-n-3
+returns-then-self-n-3 c = not_enough _ _ _ _ _ _ (λ h. omega arith)
 
-pub returns-then-ranges-n : goal.returns-then-ranges-n
-returns-then-ranges-n c = not_enough _ _ _ _ _ _ (λ h. omega arith)
+pub returns-then-self-n-4 : goal.returns-then-self-n-4
+returns-then-self-n-4 c = not_enough _ _ _ _ _ _ (λ h. omega arith)
 
-pub returns-then-references-n : goal.returns-then-references-n
-returns-then-references-n c = not_enough _ _ _ _ _ _ (λ h. omega arith)
+pub returns-then-self-n-5 : goal.returns-then-self-n-5
+returns-then-self-n-5 c = not_enough _ _ _ _ _ _ (λ h. omega arith)
 
 pub returns : goal.returns
 returns c =

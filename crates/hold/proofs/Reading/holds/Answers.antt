@@ -1,4 +1,4 @@
--- `hold::reading_holds` meets its contract: each of its tests is one of `Held`, and each alone refuses. Assumes nothing.
+-- `hold::Reading::holds` meets its contract: each of its tests is one of `Held`, and each alone refuses. Assumes nothing.
 use mathlib.Core.Path.{ap, ◌∙◌}
 use Rattle.paper.specs.Lists.{all}
 use Rattle.paper.specs.Computed.HandedIn.{name_slots_in, slots_in, numbers_in}
@@ -7,7 +7,7 @@ use Rattle.paper.specs.Pack.Rules.{once}
 use Rattle.paper.proofs.Tables.Trip.{says}
 use Rattle.hold.proofs.Held.{not_held, is_held, names_are}
 use Rattle.table_rules.proofs.Tests.{passed, clash}
-use Rattle.hold.proofs.reading_holds.Goals as goal
+use Rattle.hold.proofs.Reading.holds.Goals as goal
 
 pub returns-then-not-is_enough : goal.returns-then-not-is_enough
 returns-then-not-is_enough c = not_held _ _ (λ h. clash _ _ c.is_enough.ensures c.if-not-is_enough.true-raw h.long)

@@ -1,0 +1,2 @@
+-- A reading as it is handed in.
+pub mod HandedIn

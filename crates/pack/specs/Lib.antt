@@ -1,2 +1,0 @@
--- What the pack's reader promises below `read_pack`.
-pub mod Whole
