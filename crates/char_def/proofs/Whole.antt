@@ -19,8 +19,6 @@ use Rattle.paper.specs.Computed.Decode.{chars, decode}
 use Rattle.paper.specs.Computed.ReadText.{nothing_read, read_chars, read_text}
 use Rattle.paper.specs.Tables.Layout.{Tables, name_slot_size, definition_size, range_slot_size, reference_size}
 use Rattle.paper.specs.Tables.Reader.{has_room, clears}
-use Rattle.paper.specs.declared.Outcome.{Outcome}
-use Rattle.paper.specs.declared.Outcome.TheVariants.{Refused}
 use Rattle.paper.proofs.Text.Bytes.{cut_utf8}
 use Rattle.paper.proofs.Text.Code.{decode_complete, well_formed}
 use Rattle.paper.proofs.CharDef.FirstBad.{LF_ascii}
@@ -31,6 +29,9 @@ use Rattle.room.proofs.Whole.{nothing_written, reads}
 use Rattle.lines.specs.Lines.{read_bytes, read_all}
 use Rattle.char_def.specs.Parse.{Parsed}
 use Rattle.char_def.proofs.Text.{read_bytes_lem}
+use Rattle.std.specs.Prelude.{Err, Result}
+use Rattle.paper.specs.declared.Counts.{Counts}
+use Rattle.paper.specs.declared.Refusal.{Refusal}
 
 -- ---- the answer
 
@@ -72,15 +73,15 @@ module _ (text : List ℕ) where
 -- ---- the ways through
 
 module _ (text : List ℕ) (t : Tables) (room : true ≡ has_room t) where
-  pub long_text : max_text_bytes < length text → Parsed text t t (Refused (record { number = text_long; place = 0 }))
+  pub long_text : max_text_bytes < length text → Parsed text t t (Err (record { number = text_long; place = 0 }))
   unfolding clears
   long_text h = nothing_written (read_text text) t room text_long 0 ((too_long_exactly text 0).1 (h, refl)) refl
 
-  pub ill_text : length text ≤ max_text_bytes → (p : ℕ) → LongestPrefix p text → p < length text → Parsed text t t (Refused (record { number = text_ill_formed; place = p }))
+  pub ill_text : length text ≤ max_text_bytes → (p : ℕ) → LongestPrefix p text → p < length text → Parsed text t t (Err (record { number = text_ill_formed; place = p }))
   unfolding clears
   ill_text h p z l = nothing_written (read_text text) t room text_ill_formed p ((ill_formed_exactly text p).1 (h, part_ill text p z l, z)) refl
 
-  pub lines_parsed : length text ≤ max_text_bytes → WellFormed text → (part : Tables) (r : Outcome) → ReadInto (read_all text) part r
+  pub lines_parsed : length text ≤ max_text_bytes → WellFormed text → (part : Tables) (r : Result Counts Refusal) → ReadInto (read_all text) part r
       → Parsed text t
       (record {
         names = part.names ++ drop max_name_bytes t.names;

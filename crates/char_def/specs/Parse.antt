@@ -4,7 +4,9 @@ use Rattle.std.specs.Prelude.{ℕ, List}
 use Rattle.paper.specs.Computed.ReadText.{read_text}
 use Rattle.paper.specs.Tables.Layout.{Tables}
 use Rattle.paper.specs.Tables.Reader.{Reads}
-use Rattle.paper.specs.declared.Outcome.{Outcome}
+use Rattle.std.specs.Prelude.{Result}
+use Rattle.paper.specs.declared.Counts.{Counts}
+use Rattle.paper.specs.declared.Refusal.{Refusal}
 
-abbrev pub Parsed : List ℕ → Tables → Tables → Outcome → Type 0
+abbrev pub Parsed : List ℕ → Tables → Tables → Result Counts Refusal → Type 0
 Parsed text lent after r = Reads (read_text text) lent after r

@@ -4,7 +4,7 @@
 ghost use Rattle.char_def.specs.Parse.{Parsed};
 
 use paper::{
-    MAX_NAME_BYTES, MAX_TEXT_BYTES, Outcome, ROOM_SHORT, Refusal, TEXT_ILL_FORMED, TEXT_LONG,
+    Counts, MAX_NAME_BYTES, MAX_TEXT_BYTES, ROOM_SHORT, Refusal, TEXT_ILL_FORMED, TEXT_LONG,
 };
 use room::{CATEGORIES_SIZE, DEFINITIONS_SIZE, RANGES_SIZE, REFERENCES_SIZE};
 
@@ -16,7 +16,7 @@ pub fn parse(
     definitions: &mut [u8],
     ranges: &mut [u8],
     references: &mut [u8],
-) -> Outcome
+) -> Result<Counts, Refusal>
     ensures { Parsed text.now (record { names = names.old; categories = categories.old; definitions = definitions.old; ranges = ranges.old; references = references.old }) (record { names = names.new; categories = categories.new; definitions = definitions.new; ranges = ranges.new; references = references.new }) result }
 {
     if !room::has_room(
@@ -26,20 +26,20 @@ pub fn parse(
         ranges.len(),
         references.len(),
     ) {
-        return Outcome::Refused(Refusal {
+        return Err(Refusal {
             number: ROOM_SHORT,
             place: 0,
         });
     }
     if MAX_TEXT_BYTES < text.len() {
-        return Outcome::Refused(Refusal {
+        return Err(Refusal {
             number: TEXT_LONG,
             place: 0,
         });
     }
     let prefix = text::valid_prefix(text);
     if prefix < text.len() {
-        return Outcome::Refused(Refusal {
+        return Err(Refusal {
             number: TEXT_ILL_FORMED,
             place: prefix,
         });

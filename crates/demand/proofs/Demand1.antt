@@ -21,7 +21,6 @@ use Rattle.paper.specs.Tables.Layout.{Tables}
 use Rattle.paper.specs.Tables.Reader.{Reads}
 use Rattle.paper.specs.declared.Counts.{Counts}
 use Rattle.paper.specs.declared.Refusal.{Refusal}
-use Rattle.paper.specs.declared.Outcome.{Outcome}
 use Rattle.paper.proofs.Apart.{zero_one}
 use Rattle.paper.proofs.CharDef.Accepts.{accepts}
 use Rattle.paper.proofs.Pack.Kept.{fits_rules}
@@ -31,29 +30,25 @@ use Rattle.char_def.specs.Parse.{Parsed}
 use Rattle.fill_rows.specs.Walked.{RowRoom}
 use Rattle.row.specs.Built.{BuildsRows}
 use Rattle.row.specs.Built as rows
-use Rattle.row.specs.declared.Built as rows_built
-use Rattle.row.specs.declared.Built.TheVariants as rows_are
 use Rattle.row.proofs.Promise as row
 use Rattle.fill_flat.specs.Walked.{FlatRoom}
 use Rattle.flat.specs.Built.{BuildsFlat}
 use Rattle.flat.specs.Built as flat-table
-use Rattle.flat.specs.declared.Built as flat_built_lem
-use Rattle.flat.specs.declared.Built.TheVariants as flat_is
 use Rattle.flat.proofs.Promise as flat
 use Rattle.packer.specs.Write.{WritesPack, pack_of}
 use Rattle.packer.specs.Write as written
-use Rattle.packer.specs.declared.Written as pack_written_lem
-use Rattle.packer.specs.declared.Written.TheVariants as pack-is-written
 use Rattle.packer.proofs.Promise as writer
 use Rattle.unk.specs.Layout.{UnkTables}
 use Rattle.unk.specs.Parse.{ParsesUnk}
-use Rattle.unk.specs.declared.UnkOutcome.{UnkOutcome}
 use Rattle.unk.proofs.Promise as unk
 use Rattle.demand.specs.Demand1.{Finished, UnkFinished, Built, row_numbers, flat_numbers, writer_numbers}
+use Rattle.std.specs.Prelude.{Err, Result}
+use Rattle.unk_enter.specs.declared.UnkCounts.{UnkCounts}
+use Rattle.row.specs.declared.RowCounts.{RowCounts}
 
 -- ---- the readers
 
-finished : (a : Answer) → ((q : Reading) → a ≡ accepted q → PackRules q) → (lent left : Tables) (r : Outcome) → Reads a lent left r → Finished a lent left r
+finished : (a : Answer) → ((q : Reading) → a ≡ accepted q → PackRules q) → (lent left : Tables) (r : Result Counts Refusal) → Reads a lent left r → Finished a lent left r
 finished a rules lent left r p =
     record {
       short_room = λ e. promise.short_exactly p e;
@@ -62,13 +57,13 @@ finished a rules lent left r p =
       nothing_open = λ other s q. promise.reads_one q p;
     }
 
-pub char_def_finished : (text : List ℕ) (lent left : Tables) (r : Outcome) → Parsed text lent left r → Finished (read_text text) lent left r
+pub char_def_finished : (text : List ℕ) (lent left : Tables) (r : Result Counts Refusal) → Parsed text lent left r → Finished (read_text text) lent left r
 char_def_finished text = finished (read_text text) (λ q e. fits_rules text q ((accepts text q).0 e))
 
-pub pack_finished : (pack : List ℕ) (lent left : Tables) (r : Outcome) → Reads (read_pack pack) lent left r → Finished (read_pack pack) lent left r
+pub pack_finished : (pack : List ℕ) (lent left : Tables) (r : Result Counts Refusal) → Reads (read_pack pack) lent left r → Finished (read_pack pack) lent left r
 pack_finished pack = finished (read_pack pack) (λ q e. (pack_is pack q e).rules)
 
-pub unk_finished : (t : Tables) (n : Counts) (text : List ℕ) (lent left : UnkTables) (r : UnkOutcome) → ParsesUnk t n text lent left r → UnkFinished t n text lent left r
+pub unk_finished : (t : Tables) (n : Counts) (text : List ℕ) (lent left : UnkTables) (r : Result UnkCounts Refusal) → ParsesUnk t n text lent left r → UnkFinished t n text lent left r
 unk_finished t n text lent left r p =
     record {
       short_room = λ e. unk.short_exactly p e;
@@ -114,41 +109,41 @@ kept : {Room : Type 0} (numbers : List ℕ) (lent left : Room) (k : ℕ) (x : Re
     → Kept numbers lent left x
 kept numbers lent left k x m e f = rw e (m, refl, f)
 
-pub rows_finished : (t : Tables) (n : Counts) (lent left : RowRoom) (r : rows_built.Built) → BuildsRows t n lent left r
-    → Built row_numbers rows_are.Refused (BuildsRows t n lent) lent left r
+pub rows_finished : (t : Tables) (n : Counts) (lent left : RowRoom) (r : Result RowCounts Refusal) → BuildsRows t n lent left r
+    → Built row_numbers Err (BuildsRows t n lent) lent left r
 rows_finished t n lent left r p =
     record {
       after_refusal = λ x e. go x (rows.answer_to t n lent) (row_numbers_lem _ _ _ _ _) (sym e ∙ p.answer) p.memory;
       nothing_open = λ other s q. row.built_one q p;
     }
   where
-    go : (x : Refusal) (a : answer.Built) → Among row_numbers a → rows_are.Refused x ≡ rows.given (decoded t n) a → left ≡ rows.leaves (decoded t n) a lent
+    go : (x : Refusal) (a : answer.Built) → Among row_numbers a → Err x ≡ rows.given (decoded t n) a → left ≡ rows.leaves (decoded t n) a lent
         → Kept row_numbers lent left x
     go x built m e f = zero_one (cc)
     go x (refused_by k) m e f = kept row_numbers lent left k x m (cc) f
 
-pub flat_finished : (t : Tables) (n : Counts) (lent left : FlatRoom) (r : flat_built_lem.Built) → BuildsFlat t n lent left r
-    → Built flat_numbers flat_is.Refused (BuildsFlat t n lent) lent left r
+pub flat_finished : (t : Tables) (n : Counts) (lent left : FlatRoom) (r : Result ℕ Refusal) → BuildsFlat t n lent left r
+    → Built flat_numbers Err (BuildsFlat t n lent) lent left r
 flat_finished t n lent left r p =
     record {
       after_refusal = λ x e. go x (flat-table.answer_to (handed_in t n) lent) (flat_numbers_lem _ _ _) (sym e ∙ p.answer) p.memory;
       nothing_open = λ other s q. flat.built_one q p;
     }
   where
-    go : (x : Refusal) (a : answer.Built) → Among flat_numbers a → flat_is.Refused x ≡ flat-table.given (decoded t n) a → left ≡ flat-table.leaves (decoded t n) a lent
+    go : (x : Refusal) (a : answer.Built) → Among flat_numbers a → Err x ≡ flat-table.given (decoded t n) a → left ≡ flat-table.leaves (decoded t n) a lent
         → Kept flat_numbers lent left x
     go x built m e f = zero_one (cc)
     go x (refused_by k) m e f = kept flat_numbers lent left k x m (cc) f
 
-pub writer_finished : (t : Tables) (n : Counts) (lent left : List ℕ) (r : pack_written_lem.Written) → WritesPack t n lent left r
-    → Built writer_numbers pack-is-written.Refused (WritesPack t n lent) lent left r
+pub writer_finished : (t : Tables) (n : Counts) (lent left : List ℕ) (r : Result ℕ Refusal) → WritesPack t n lent left r
+    → Built writer_numbers Err (WritesPack t n lent) lent left r
 writer_finished t n lent left r p =
     record {
       after_refusal = λ x e. go x (pack_written (handed_in t n) (length lent)) (writer_numbers_lem _ _) (sym e ∙ p.answer) p.memory;
       nothing_open = λ other s q. writer.writes_one q p;
     }
   where
-    go : (x : Refusal) (a : answer.Built) → Among writer_numbers a → pack-is-written.Refused x ≡ written.given a (pack_of (handed_in t n))
+    go : (x : Refusal) (a : answer.Built) → Among writer_numbers a → Err x ≡ written.given a (pack_of (handed_in t n))
         → left ≡ written.leaves a (pack_of (handed_in t n)) lent → Kept writer_numbers lent left x
     go x built m e f = zero_one (cc)
     go x (refused_by k) m e f = kept writer_numbers lent left k x m (cc) f

@@ -18,23 +18,23 @@ use Rattle.paper.specs.Computed.HandedIn.{handed_in}
 use Rattle.paper.specs.Computed.ReadPack.{read_pack}
 use Rattle.paper.specs.declared.Counts.{Counts}
 use Rattle.paper.specs.declared.Refusal.{Refusal}
-use Rattle.paper.specs.declared.Outcome.TheVariants.{Accepted, Refused}
 use Rattle.paper.proofs.Pack.Broken.{refused_exactly}
 use Rattle.paper.proofs.Pack.Trip.{pack_is, write_read, read_write}
 use Rattle.paper.proofs.Tables.Holds.{handed_exactly, handed_inverse}
 use Rattle.room.proofs.Promise as promise
 use Rattle.packer.proofs.Promise as writer
 use Rattle.demand.specs.Packs.{Unpacked, Written, pack_in, ReadsPacks, OutAndBack, WithinLimit, BackAndOut}
+use Rattle.std.specs.Prelude.{Err, Ok}
 
 module _ (pack : List ℕ) (bytes : T (all is_byte pack)) (run : Unpacked pack) where
-  accepted_so : (n : Counts) → (run.outcome ≡ Accepted n) ↔ ((q : Reading) × PackRules q × (pack_bytes q ≡ pack) × (n ≡ counts_of q))
+  accepted_so : (n : Counts) → (run.outcome ≡ Ok n) ↔ ((q : Reading) × PackRules q × (pack_bytes q ≡ pack) × (n ≡ counts_of q))
   accepted_so n =
       let p = promise.accepted_exactly run.room run.promised n in (
         λ e. let (q, a, c) = p.0 e in (q, (pack_is pack q a).rules, read_write pack q bytes a, c),
         λ (q, k, w, c). p.1 (q, ap read_pack (sym w) ∙ write_read q k, c),
       )
 
-  refused_so : (x : Refusal) → (run.outcome ≡ Refused x) ↔ Broken pack x.number x.place
+  refused_so : (x : Refusal) → (run.outcome ≡ Err x) ↔ Broken pack x.number x.place
   refused_so x =
       let p = promise.refused_exactly run.room run.promised x in
       let q = refused_exactly pack x.number x.place in

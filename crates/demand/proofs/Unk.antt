@@ -8,18 +8,17 @@ use Rattle.paper.specs.CharDef.Reading.{Reading, Fits}
 use Rattle.paper.specs.Tables.Layout.{Tables}
 use Rattle.paper.specs.Computed.HandedIn.{handed_in}
 use Rattle.paper.specs.declared.Counts.{Counts}
-use Rattle.paper.specs.declared.Outcome.TheVariants as outcome
 use Rattle.paper.specs.Unk.Entry.{Unk, UnkFits}
 use Rattle.paper.proofs.Unk.Details.{word_is, details_are}
 use Rattle.paper.proofs.Unk.Text.{unk_fits_one}
 use Rattle.unk.specs.Parse.{counts_of}
 use Rattle.unk_enter.specs.declared.UnkCounts.{UnkCounts}
-use Rattle.unk.specs.declared.UnkOutcome.TheVariants.{Accepted}
 use Rattle.unk.proofs.Promise as promise
 use Rattle.word.proofs.Promise as word
 use Rattle.demand.specs.Demand3.{Run}
 use Rattle.demand.specs.Unk.{RunUnk, ReadsUnk, FindsWords}
 use Rattle.demand.proofs.Demand3.{demand3}
+use Rattle.std.specs.Prelude.{Ok}
 
 pub reads_unk : (t : Tables) (n : Counts) (q : Reading) → handed_in t n ≡ some q → (text : List ℕ) (run : RunUnk t n text) → ReadsUnk q text run
 reads_unk t n q e text run =
@@ -35,7 +34,7 @@ reads_unk t n q e text run =
     }
 
 -- END TO END: from the bytes of an accepted unk.def through `parse_unk` to what the lookups return: what its lines say, and 15 past them
-pub from_unk : (t : Tables) (n : Counts) (q : Reading) → handed_in t n ≡ some q → (text : List ℕ) (run : RunUnk t n text) (c : UnkCounts) → run.outcome ≡ Accepted c
+pub from_unk : (t : Tables) (n : Counts) (q : Reading) → handed_in t n ≡ some q → (text : List ℕ) (run : RunUnk t n text) (c : UnkCounts) → run.outcome ≡ Ok c
     → (u : Unk) × UnkFits q.names text u × FindsWords q u run.left n.categories c.entries
 unfolding counts_of
 from_unk t n q e text run c a =
@@ -53,8 +52,8 @@ from_unk t n q e text run c a =
     (u, f, subst (λ (k : UnkCounts). FindsWords q u run.left n.categories k.entries) (sym d) w)
 
 -- and from the bytes of both: the one reading that fits the char.def is what the unk.def is read over
-pub from_texts : (text : List ℕ) (run : Run text) (n : Counts) → run.outcome ≡ outcome.Accepted n
-    → (unk : List ℕ) (read : RunUnk run.left n unk) (c : UnkCounts) → read.outcome ≡ Accepted c
+pub from_texts : (text : List ℕ) (run : Run text) (n : Counts) → run.outcome ≡ Ok n
+    → (unk : List ℕ) (read : RunUnk run.left n unk) (c : UnkCounts) → read.outcome ≡ Ok c
     → (q : Reading) × Fits text q × (u : Unk) × UnkFits q.names unk u × FindsWords q u read.left n.categories c.entries
 from_texts text run n a unk read c b =
     let d = demand3 text run in

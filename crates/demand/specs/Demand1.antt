@@ -2,7 +2,7 @@
 -- and refuses by a number from document 01 or a later request, with a place. What each refusal leaves in lent memory is fixed there."
 -- That an answer comes is in the contracts: no entry has a `requires`, and a proof in Rattle is of an end. What is said here is which.
 -- Assumes nothing.
-use Rattle.std.specs.Prelude.{◌≡◌, true, false, cond, List, [], ◌∷◌, ℕ, eqb}
+use Rattle.std.specs.Prelude.{◌≡◌, true, false, cond, List, [], ◌∷◌, ℕ, eqb, Err, Result}
 use Rattle.std.proofs.Math.Option.{none, some}
 use Rattle.paper.specs.Lists.{any}
 use Rattle.paper.specs.Refusals.{room_short, flat_row_long, table_room_short, pack_room_short, tables_apart}
@@ -12,37 +12,34 @@ use Rattle.paper.specs.Tables.Layout.{Tables}
 use Rattle.paper.specs.Tables.Reader.{has_room, clears, past, cleared, Reads}
 use Rattle.paper.specs.declared.Counts.{Counts}
 use Rattle.paper.specs.declared.Refusal.{Refusal}
-use Rattle.paper.specs.declared.Outcome.{Outcome}
-use Rattle.paper.specs.declared.Outcome.TheVariants.{Refused}
 use Rattle.unk.specs.Layout.{UnkTables}
 use Rattle.unk.specs.Parse as unk
-use Rattle.unk.specs.declared.UnkOutcome.{UnkOutcome}
-use Rattle.unk.specs.declared.UnkOutcome.TheVariants as unk_outcome
+use Rattle.unk_enter.specs.declared.UnkCounts.{UnkCounts}
 
 -- ---- the readers of char.def and of packs
 
 -- a reader of the five tables, to whose bytes the paper's answer is a: it was lent tables, left them so, and answered r
-pub record Finished (a : Answer) (lent left : Tables) (r : Outcome) : Type 0 where
+pub record Finished (a : Answer) (lent left : Tables) (r : Result Counts Refusal) : Type 0 where
   -- 1, exactly where a lent room is below its size; nothing is changed
-  pub short_room : has_room lent ≡ false → (r ≡ Refused (record { number = room_short; place = 0 })) × (left ≡ lent)
+  pub short_room : has_room lent ≡ false → (r ≡ Err (record { number = room_short; place = 0 })) × (left ≡ lent)
   -- a later refusal leaves zero up to the sizes where the paper says so of its number, and memory as it was otherwise
-  pub after_refusal : has_room lent ≡ true → (x : Refusal) → r ≡ Refused x → left ≡ cond (clears x.number) (cleared lent) lent
+  pub after_refusal : has_room lent ≡ true → (x : Refusal) → r ≡ Err x → left ≡ cond (clears x.number) (cleared lent) lent
   -- "memory past the sizes is untouched", whatever the answer
   pub past_kept : past left ≡ past lent
   -- nothing is left open: another outcome and another memory that the promise allows are these
-  pub nothing_open : (other : Tables) (s : Outcome) → Reads a lent other s → (s ≡ r) × (other ≡ left)
+  pub nothing_open : (other : Tables) (s : Result Counts Refusal) → Reads a lent other s → (s ≡ r) × (other ≡ left)
 
 -- ---- the reader of unk.def, over a reading's tables
 
-pub record UnkFinished (t : Tables) (n : Counts) (text : List ℕ) (lent left : UnkTables) (r : UnkOutcome) : Type 0 where
+pub record UnkFinished (t : Tables) (n : Counts) (text : List ℕ) (lent left : UnkTables) (r : Result UnkCounts Refusal) : Type 0 where
   -- 1, exactly where a lent room is below its size; then 26, where no reading stands in the tables; nothing is changed
-  pub short_room : unk.has_room lent ≡ false → (r ≡ unk_outcome.Refused (record { number = room_short; place = 0 })) × (left ≡ lent)
-  pub apart : unk.has_room lent ≡ true → handed_in t n ≡ none → (r ≡ unk_outcome.Refused (record { number = tables_apart; place = 0 })) × (left ≡ lent)
+  pub short_room : unk.has_room lent ≡ false → (r ≡ Err (record { number = room_short; place = 0 })) × (left ≡ lent)
+  pub apart : unk.has_room lent ≡ true → handed_in t n ≡ none → (r ≡ Err (record { number = tables_apart; place = 0 })) × (left ≡ lent)
   -- the rest as above
   pub after_refusal : unk.has_room lent ≡ true → (q : Reading) → handed_in t n ≡ some q
-      → (x : Refusal) → r ≡ unk_outcome.Refused x → left ≡ cond (clears x.number) (unk.cleared lent) lent
+      → (x : Refusal) → r ≡ Err x → left ≡ cond (clears x.number) (unk.cleared lent) lent
   pub past_kept : unk.past left ≡ unk.past lent
-  pub nothing_open : (other : UnkTables) (s : UnkOutcome) → unk.ParsesUnk t n text lent other s → (s ≡ r) × (other ≡ left)
+  pub nothing_open : (other : UnkTables) (s : Result UnkCounts Refusal) → unk.ParsesUnk t n text lent other s → (s ≡ r) × (other ≡ left)
 
 -- ---- builders and the pack writer: "26, 16, 17 or 22"
 

@@ -3,7 +3,7 @@
 -- text, and demand 2's lookups are over that reading. A refused text names its first bad line: the lines before it are accepted by themselves, and
 -- nothing put after it and its LF makes the text acceptable."
 -- Assumes nothing.
-use Rattle.std.specs.Prelude.{ℕ, ◌≤◌, ◌≡◌, ◌↔◌, true, List, ◌∷◌, ◌++◌}
+use Rattle.std.specs.Prelude.{ℕ, ◌≤◌, ◌≡◌, ◌↔◌, true, List, ◌∷◌, ◌++◌, Err, Ok, Result}
 use Rattle.std.proofs.Math.Option.{some}
 use Rattle.paper.specs.Refusals.{range_parts}
 use Rattle.paper.specs.Text.Scalar.{lf}
@@ -14,8 +14,6 @@ use Rattle.paper.specs.Tables.Reader.{has_room}
 use Rattle.paper.specs.Computed.HandedIn.{handed_in}
 use Rattle.paper.specs.declared.Counts.{Counts}
 use Rattle.paper.specs.declared.Refusal.{Refusal}
-use Rattle.paper.specs.declared.Outcome.{Outcome}
-use Rattle.paper.specs.declared.Outcome.TheVariants.{Accepted, Refused}
 use Rattle.char_def.specs.Parse.{Parsed}
 
 -- `parse` ran on a text, over room of the sizes: whatever lent memory held before, whatever it holds now, and whatever came back, as far as the
@@ -24,20 +22,20 @@ pub record Run (text : List ℕ) : Type 0 where
   pub lent : Tables
   pub room : has_room lent ≡ true
   pub left : Tables
-  pub outcome : Outcome
+  pub outcome : Result Counts Refusal
   pub promised : Parsed text lent left outcome
 
 pub record Demand3 (text : List ℕ) (run : Run text) : Type 0 where
   -- accepted exactly when a reading fits: `Fits` is the grammar and the limits, and names the text's size and its characters
-  pub accepted_exactly : (n : Counts) → (run.outcome ≡ Accepted n) ↔ ((q : Reading) × Fits text q × (n ≡ counts_of q))
+  pub accepted_exactly : (n : Counts) → (run.outcome ≡ Ok n) ↔ ((q : Reading) × Fits text q × (n ≡ counts_of q))
   -- one reading fits, and it is the one that all who are handed these tables find there
   pub one_reading : (p q : Reading) → Fits text p → Fits text q → p ≡ q
   pub in_the_tables : (q : Reading) → Fits text q → handed_in run.left (counts_of q) ≡ some q
   -- refused exactly with the number and the place of what is wrong: 2, 3, or 4 to 13 with the first bad line
-  pub refused_exactly : (x : Refusal) → (run.outcome ≡ Refused x) ↔ BadText x.number x.place text
+  pub refused_exactly : (x : Refusal) → (run.outcome ≡ Err x) ↔ BadText x.number x.place text
   -- the lines before the first bad one are accepted by themselves
-  pub accepted_before : (x : Refusal) → run.outcome ≡ Refused x → range_parts ≤ x.number
-      → (other : Run (lines_before x.place text)) → (n : Counts) × (other.outcome ≡ Accepted n)
+  pub accepted_before : (x : Refusal) → run.outcome ≡ Err x → range_parts ≤ x.number
+      → (other : Run (lines_before x.place text)) → (n : Counts) × (other.outcome ≡ Ok n)
   -- nothing put after it and its LF makes the text acceptable
-  pub refused_after : (x : Refusal) → run.outcome ≡ Refused x → range_parts ≤ x.number
-      → (u : List ℕ) (other : Run (through_line x.place text ++ (lf ∷ u))) (n : Counts) → other.outcome ≡ Accepted n → ⊥
+  pub refused_after : (x : Refusal) → run.outcome ≡ Err x → range_parts ≤ x.number
+      → (u : List ℕ) (other : Run (through_line x.place text ++ (lf ∷ u))) (n : Counts) → other.outcome ≡ Ok n → ⊥

@@ -21,7 +21,6 @@ use Rattle.paper.proofs.Tables.Append.{entry_more, ranges_more, references_more,
 use Rattle.paper.specs.declared.Counts.{Counts}
 use Rattle.name.specs.declared.Numbered.{Numbered}
 use Rattle.name.specs.Names.{Numbers}
-use Rattle.entry.specs.declared.Names.{Names}
 use Rattle.entry.specs.Steps.{enter_bytes, AllIn, Memory, Held, Went}
 
 -- ---- the paper's step, case by case
@@ -107,17 +106,19 @@ module _ {r : Reading} {m : Memory} {c : Counts} (z : Held r m c) (lower upper :
       → enter_bytes r (range lower upper ws) ≡ stop k
   line_no_name h g k i = let e = z.ranges_are in let f = z.references_are in range_in_lem r lower upper ws (omega arith) (omega arith) (full_at k) i
 
-  pub line_range : c.ranges < max_ranges → c.references + length ws ≤ max_references → (store slots ranges refs : List ℕ) (d : Names)
-      → AllIn r.names ws c.references m.references store slots refs d
+  pub line_range : c.ranges < max_ranges → c.references + length ws ≤ max_references → (store slots ranges refs : List ℕ) (d : Counts)
+      → AllIn r.names ws c m.references store slots refs d
       → (n : ℕ) → n ≡ length ws
       → ranges ≡ patch (range_slot_size * c.ranges) (slot_bytes (record { lower = lower; upper = upper; first = c.references; count = n })) m.ranges
       → Went (enter_bytes r (range lower upper ws))
       (record { store = store; slots = slots; definitions = m.definitions; ranges = ranges; references = refs })
-      (record { categories = d.count; definitions = c.definitions; ranges = c.ranges + 1; references = d.next; bytes = d.bytes })
+      (record { categories = d.categories; definitions = d.definitions; ranges = c.ranges + 1; references = d.references; bytes = d.bytes })
   line_range h g store slots ranges refs d u n e p =
       let a = z.ranges_are in
       let b = z.references_are in
-      let x = u.next_is in
+      let x = u.references_are in
+      let y = u.definitions_stay in
+      let f = z.definitions_few in
       let l : length (r.ranges ++ (new_range u.now_names lower upper ws ∷ [])) ≡ length r.ranges + 1
       = length-append r.ranges (new_range u.now_names lower upper ws ∷ []) in
       let k : length (numbers u.now_names ws) ≡ length ws = length-map ws (λ w. position_of same w u.now_names) in
@@ -128,8 +129,8 @@ module _ {r : Reading} {m : Memory} {c : Counts} (z : Held r m c) (lower upper :
         goes = range_in_lem r lower upper ws (omega arith) (omega arith) (names_are u.now_names) u.entered;
         held = record {
           names = u.laid_now;
-          definitions_few = z.definitions_few;
-          definitions_are = z.definitions_are;
+          definitions_few = omega arith;
+          definitions_are = y ∙ z.definitions_are;
           in_definitions = z.in_definitions;
           ranges_few = omega arith;
           ranges_are = omega arith;

@@ -25,13 +25,11 @@ use Rattle.line.proofs.LineBridge.{line_bridge}
 use Rattle.category_line.specs.Answer.{Says}
 use Rattle.category_line.specs.declared.CategoryLine.{CategoryLine}
 use Rattle.category_line.specs.declared.RangeLine.{RangeLine}
-use Rattle.category_line.specs.declared.LineAnswer.{LineAnswer}
-use Rattle.category_line.specs.declared.LineAnswer.TheVariants.{Read, Refused}
 use Rattle.category_line.specs.declared.Line.TheVariants.{Blank, Category, Range}
 use Rattle.paper.specs.declared.Counts.{Counts}
-use Rattle.entry.specs.declared.LineStep.{LineStep}
-use Rattle.entry.specs.declared.LineStep.TheVariants.{Next, Stop}
 use Rattle.entry.specs.Steps.{words_of, enter_bytes, enter_found_bytes, Memory, Stepped}
+use Rattle.std.specs.Prelude.{Err, Ok, Result}
+use Rattle.category_line.specs.declared.Line.{Line}
 
 module _ {A : Type 0} (p : A → Bool) where
   pub until_length : (l : List A) → length (until p l) ≤ length l
@@ -132,30 +130,30 @@ verdict_bytes r cs = ap (enter_found_bytes r) (line_bridge cs) ∙ found_bytes r
 
 -- ---- what the answer's cases do
 
-pub says_as : {text : List ℕ} {b : Part} {f : Found} {r : LineAnswer} (s : LineAnswer) → r ≡ s → Says text b f r → Says text b f s
-says_as {text} {b} {f} s e h = subst (λ (x : LineAnswer). Says text b f x) e h
+pub says_as : {text : List ℕ} {b : Part} {f : Found} {r : Result Line ℕ} (s : Result Line ℕ) → r ≡ s → Says text b f r → Says text b f s
+says_as {text} {b} {f} s e h = subst (λ (x : Result Line ℕ). Says text b f x) e h
 
-pub does_refuse : {text : List ℕ} {b : Part} {f : Found} (k : ℕ) → Says text b f (Refused k) → (r : Reading) → enter_found_bytes r f ≡ stop k
+pub does_refuse : {text : List ℕ} {b : Part} {f : Found} (k : ℕ) → Says text b f (Err k) → (r : Reading) → enter_found_bytes r f ≡ stop k
 does_refuse k h r = ap (enter_found_bytes r) (sym h.says)
 
-pub does_nothing : {text : List ℕ} {b : Part} {f : Found} → Says text b f (Read Blank) → (r : Reading) → enter_found_bytes r f ≡ go_on r
+pub does_nothing : {text : List ℕ} {b : Part} {f : Found} → Says text b f (Ok Blank) → (r : Reading) → enter_found_bytes r f ≡ go_on r
 unfolding enter_bytes
 does_nothing h r = ap (enter_found_bytes r) (sym h.says)
 
-stepped_as : (f g : Reading → Step) → ((x : Reading) → f x ≡ g x) → (m : Memory) (c : Counts) (m' : Memory) (s : LineStep) → Stepped f m c m' s → Stepped g m c m' s
-stepped_as f g e m c m' (Next d) h = λ r z. let w = h r z in record { after = w.after; goes = sym (e r) ∙ w.goes; held = w.held }
-stepped_as f g e m c m' (Stop k) h = λ r z. sym (e r) ∙ h r z
+stepped_as : (f g : Reading → Step) → ((x : Reading) → f x ≡ g x) → (m : Memory) (c : Counts) (m' : Memory) (s : Result Counts ℕ) → Stepped f m c m' s → Stepped g m c m' s
+stepped_as f g e m c m' (Ok d) h = λ r z. let w = h r z in record { after = w.after; goes = sym (e r) ∙ w.goes; held = w.held }
+stepped_as f g e m c m' (Err k) h = λ r z. sym (e r) ∙ h r z
 
-pub does_category : (text : List ℕ) (b : Part) (f : Found) (l : CategoryLine) → Says text b f (Read (Category l))
-    → (m : Memory) (c : Counts) (m' : Memory) (s : LineStep)
+pub does_category : (text : List ℕ) (b : Part) (f : Found) (l : CategoryLine) → Says text b f (Ok (Category l))
+    → (m : Memory) (c : Counts) (m' : Memory) (s : Result Counts ℕ)
     → Stepped (λ x. enter_bytes x (category (drop l.name.start (take l.name.end text)) l.invoke l.group l.length)) m c m' s
     → Stepped (λ x. enter_found_bytes x f) m c m' s
 does_category text b f l h m c m' s =
     stepped_as (λ x. enter_bytes x (category (drop l.name.start (take l.name.end text)) l.invoke l.group l.length)) (λ x. enter_found_bytes x f)
     (λ x. ap (enter_found_bytes x) h.says) m c m' s
 
-pub does_range : (text : List ℕ) (b : Part) (f : Found) (l : RangeLine) → Says text b f (Read (Range l))
-    → (m : Memory) (c : Counts) (m' : Memory) (s : LineStep)
+pub does_range : (text : List ℕ) (b : Part) (f : Found) (l : RangeLine) → Says text b f (Ok (Range l))
+    → (m : Memory) (c : Counts) (m' : Memory) (s : Result Counts ℕ)
     → Stepped (λ x. enter_bytes x (range l.lower l.upper (words_of (drop l.names.start (take l.names.end text))))) m c m' s
     → Stepped (λ x. enter_found_bytes x f) m c m' s
 unfolding words_of

@@ -24,11 +24,11 @@ use Rattle.scan.proofs.Bridge.{marks_nil}
 use Rattle.scan.specs.declared.Part.{Part}
 use Rattle.scan.specs.Answer.{word_and, bytes_of, NextWord}
 use Rattle.name.specs.declared.Numbered.{Numbered}
-use Rattle.name.specs.declared.Entry.TheVariants.{Number, Full}
 use Rattle.slot.specs.Laid.{Laid}
 use Rattle.name.specs.Names.{Numbers, Enters, Room}
-use Rattle.entry.specs.declared.Names.{Names}
+use Rattle.paper.specs.declared.Counts.{Counts}
 use Rattle.entry.specs.Steps.{words_of, Ready, AllIn}
+use Rattle.std.specs.Prelude.{Err, Ok}
 
 -- ---- one word
 
@@ -186,19 +186,22 @@ module _ {names ws : List (List ℕ)} {n : ℕ} {refs₀ store slots refs : List
             ∙ ap (λ (m : List ℕ). joined (map (le 2) m)) (sym (map_snoc (λ v. position_of same v u.now_names) s.done w)));
       }
 
-  over : rest ≡ [] → (d : Names) → d.count ≡ many → d.bytes ≡ used → d.next ≡ next → AllIn names ws n refs₀ store slots refs d
-  over r d p q x =
+  over : rest ≡ [] → (c d : Counts) → c.references ≡ n → d.categories ≡ many → d.bytes ≡ used → d.references ≡ next → d.definitions ≡ c.definitions
+      → AllIn names ws c refs₀ store slots refs d
+  over r c d o p q x y =
       let e : s.done ≡ ws = sym (s.cut ∙ ap (λ (m : List (List ℕ)). s.done ++ m) r ∙ append-nil s.done) in
       record {
         now_names = s.now_names;
         entered = s.runs ∙ ap (λ (m : List (List ℕ)). intern m s.now_names) r ∙ intern_none s.now_names;
         laid_now = subst (λ (k : ℕ). Laid s.now_names store slots k d.bytes) (sym p) (subst (λ (k : ℕ). Laid s.now_names store slots many k) (sym q) s.laid_now);
-        next_is = x ∙ s.next_is ∙ ap (λ (m : List (List ℕ)). n + length m) e;
-        put = s.put ∙ ap (λ (m : List (List ℕ)). patch (2 * n) (joined (map (le 2) (map (λ w. position_of same w s.now_names) m))) refs₀) e;
+        references_are = x ∙ s.next_is ∙ ap (λ (m : List (List ℕ)). n + length m) e ∙ ap (λ (k : ℕ). k + length ws) (sym o);
+        definitions_stay = y;
+        put = s.put ∙ ap (λ (m : List (List ℕ)). patch (2 * n) (joined (map (le 2) (map (λ w. position_of same w s.now_names) m))) refs₀) e
+            ∙ ap (λ (k : ℕ). patch (2 * k) (joined (map (le 2) (map (λ w. position_of same w s.now_names) ws))) refs₀) (sym o);
       }
 
-pub record Entering (text store₀ slots₀ refs₀ : List ℕ) (n count bytes start end : ℕ) (store slots refs : List ℕ) (at next many used : ℕ) : Type 0 where
-  pub ready : Ready store₀ slots₀ refs₀ text n count bytes start end
+pub record Entering (text store₀ slots₀ refs₀ : List ℕ) (c : Counts) (start end : ℕ) (store slots refs : List ℕ) (at : ℕ) (d : Counts) : Type 0 where
+  pub ready : Ready store₀ slots₀ refs₀ text c start end
   pub upto : at ≤ end
   pub within : end ≤ length text
   pub store_long : max_name_bytes ≤ length store
@@ -206,14 +209,15 @@ pub record Entering (text store₀ slots₀ refs₀ : List ℕ) (n count bytes s
   pub store_kept : length store ≡ length store₀
   pub slots_kept : length slots ≡ length slots₀
   pub refs_kept : length refs ≡ length refs₀
-  pub many_few : many ≤ max_categories
-  pub used_short : used ≤ max_name_bytes
-  pub each : (names : List (List ℕ)) → Laid names store₀ slots₀ count bytes
-      → SoFar names (words_of (drop start (take end text))) n refs₀ store slots refs (words_of (drop at (take end text))) next many used
+  pub many_few : d.categories ≤ max_categories
+  pub used_short : d.bytes ≤ max_name_bytes
+  pub definitions_stay : d.definitions ≡ c.definitions
+  pub each : (names : List (List ℕ)) → Laid names store₀ slots₀ c.categories c.bytes
+      → SoFar names (words_of (drop start (take end text))) c.references refs₀ store slots refs (words_of (drop at (take end text))) d.references d.categories d.bytes
 
-pub enter_start : {text store slots refs : List ℕ} {n count bytes start end : ℕ} → Ready store slots refs text n count bytes start end
-    → Entering text store slots refs n count bytes start end store slots refs start n count bytes
-enter_start {text} {store} {slots} {refs} {n} {count} {bytes} {start} {end} z =
+pub enter_start : {text store slots refs : List ℕ} {c : Counts} {start end : ℕ} → Ready store slots refs text c start end
+    → Entering text store slots refs c start end store slots refs start c
+enter_start {text} {store} {slots} {refs} {c} {start} {end} z =
     let room = z.room in
     record {
       ready = z;
@@ -226,6 +230,7 @@ enter_start {text} {store} {slots} {refs} {n} {count} {bytes} {start} {end} z =
       refs_kept = refl;
       many_few = z.laid.few;
       used_short = z.laid.short;
+      definitions_stay = refl;
       each = λ names l. record {
         now_names = names;
         done = [];
@@ -234,22 +239,22 @@ enter_start {text} {store} {slots} {refs} {n} {count} {bytes} {start} {end} z =
         laid_now = l;
         next_is = omega arith;
         there = tt;
-        put = patch_in (2 * n) [] refs (omega arith);
+        put = patch_in (2 * c.references) [] refs (omega arith);
       };
     }
 
-module _ {text store₀ slots₀ refs₀ : List ℕ} {n count bytes start end : ℕ} {store slots refs : List ℕ} {at next many used : ℕ}
-    (z : Entering text store₀ slots₀ refs₀ n count bytes start end store slots refs at next many used) where
-  pub enter_none : (w : Part) → NextWord text at end true w → w.end ≤ w.start → (names : List (List ℕ)) → Laid names store₀ slots₀ count bytes
-      → AllIn names (words_of (drop start (take end text))) n refs₀ store slots refs (record { count = many; bytes = used; next = next })
-  enter_none w x h names l = over (z.each names l) (no_word text at end w x h) _ refl refl refl
+module _ {text store₀ slots₀ refs₀ : List ℕ} {c : Counts} {start end : ℕ} {store slots refs : List ℕ} {at : ℕ} {d : Counts}
+    (z : Entering text store₀ slots₀ refs₀ c start end store slots refs at d) where
+  pub enter_none : (w : Part) → NextWord text at end true w → w.end ≤ w.start → (names : List (List ℕ)) → Laid names store₀ slots₀ c.categories c.bytes
+      → AllIn names (words_of (drop start (take end text))) c refs₀ store slots refs d
+  enter_none w x h names l = over (z.each names l) (no_word text at end w x h) c d refl refl refl refl z.definitions_stay
 
-  pub enter_done : end ≤ at → (names : List (List ℕ)) → Laid names store₀ slots₀ count bytes
-      → AllIn names (words_of (drop start (take end text))) n refs₀ store slots refs (record { count = many; bytes = used; next = next })
-  enter_done h names l = over (z.each names l) (ended text at end h) _ refl refl refl
+  pub enter_done : end ≤ at → (names : List (List ℕ)) → Laid names store₀ slots₀ c.categories c.bytes
+      → AllIn names (words_of (drop start (take end text))) c refs₀ store slots refs d
+  enter_done h names l = over (z.each names l) (ended text at end h) c d refl refl refl refl z.definitions_stay
 
   module _ (w : Part) (x : NextWord text at end true w) (h : w.start < w.end) where
-    pub enter_room : Room store slots text many used w.start w.end
+    pub enter_room : Room store slots text d.categories d.bytes w.start w.end
     enter_room =
         record {
           store_long = z.store_long;
@@ -261,7 +266,7 @@ module _ {text store₀ slots₀ refs₀ : List ℕ} {n count bytes start end : 
         }
 
     -- places that are left
-    pub enter_fits : next + 1 ≤ n + length (words_of (drop start (take end text)))
+    pub enter_fits : d.references + 1 ≤ c.references + length (words_of (drop start (take end text)))
     enter_fits =
         let s = z.each z.ready.names z.ready.laid in
         let e : length (words_of (drop at (take end text))) ≡ suc (length (words_of (drop w.end (take end text)))) = ap length (a_word text at end w x h) in
@@ -269,14 +274,14 @@ module _ {text store₀ slots₀ refs₀ : List ℕ} {n count bytes start end : 
         let y = s.next_is in
         omega arith
 
-    pub enter_stops : (k : ℕ) (store' slots' : List ℕ) → Enters store slots many used (bytes_of text w) store' slots' (Full k)
-        → (names : List (List ℕ)) → Laid names store₀ slots₀ count bytes → intern (words_of (drop start (take end text))) names ≡ full_at k
+    pub enter_stops : (k : ℕ) (store' slots' : List ℕ) → Enters store slots d.categories d.bytes (bytes_of text w) store' slots' (Err k)
+        → (names : List (List ℕ)) → Laid names store₀ slots₀ c.categories c.bytes → intern (words_of (drop start (take end text))) names ≡ full_at k
     enter_stops k store' slots' f names l =
         let s = z.each names l in
         s.runs ∙ ap (λ (m : List (List ℕ)). intern m s.now_names) (a_word text at end w x h)
         ∙ intern_full (bytes_of text w) (words_of (drop w.end (take end text))) s.now_names k (f s.now_names s.laid_now).full
 
-    module _ (e : Numbered) (store' slots' : List ℕ) (f : Enters store slots many used (bytes_of text w) store' slots' (Number e)) where
+    module _ (e : Numbered) (store' slots' : List ℕ) (f : Enters store slots d.categories d.bytes (bytes_of text w) store' slots' (Ok e)) where
       here : Numbers (z.each z.ready.names z.ready.laid).now_names (bytes_of text w) store' slots' e
       here = let s = z.each z.ready.names z.ready.laid in f s.now_names s.laid_now
 
@@ -285,17 +290,18 @@ module _ {text store₀ slots₀ refs₀ : List ℕ} {n count bytes start end : 
           let u = here in
           let p : position_of same (bytes_of text w) u.now_names < length u.now_names = position_less (bytes_of text w) u.now_names u.there in
           let q = u.number_is in
-          let c = u.laid_now.count_is in
-          let d = u.laid_now.few in
+          let count = u.laid_now.count_is in
+          let few = u.laid_now.few in
           omega arith
 
-      pub enter_on : (refs' : List ℕ) → refs' ≡ patch (2 * next) (le 2 e.number) refs → length store' ≡ length store → length slots' ≡ length slots
-          → Entering text store₀ slots₀ refs₀ n count bytes start end store' slots' refs' w.end (next + 1) e.count e.bytes
+      pub enter_on : (refs' : List ℕ) → refs' ≡ patch (2 * d.references) (le 2 e.number) refs → length store' ≡ length store → length slots' ≡ length slots
+          → Entering text store₀ slots₀ refs₀ c start end store' slots' refs' w.end
+          (record { categories = e.count; definitions = d.definitions; ranges = d.ranges; references = d.references + 1; bytes = e.bytes })
       enter_on refs' p a b =
           let u = here in
           let sl = z.store_long in
           let tl = z.slots_long in
-          let room : 2 * (n + length (words_of (drop start (take end text)))) ≤ length refs₀ = z.ready.room in
+          let room : 2 * (c.references + length (words_of (drop start (take end text)))) ≤ length refs₀ = z.ready.room in
           record {
             ready = z.ready;
             upto = x.within z.upto;
@@ -304,9 +310,10 @@ module _ {text store₀ slots₀ refs₀ : List ℕ} {n count bytes start end : 
             slots_long = omega arith;
             store_kept = a ∙ z.store_kept;
             slots_kept = b ∙ z.slots_kept;
-            refs_kept = ap length p ∙ patch_length (2 * next) (le 2 e.number) refs ∙ z.refs_kept;
+            refs_kept = ap length p ∙ patch_length (2 * d.references) (le 2 e.number) refs ∙ z.refs_kept;
             many_few = u.laid_now.few;
             used_short = u.laid_now.short;
+            definitions_stay = z.definitions_stay;
             each = λ names l.
                 let s = z.each names l in
                 on s (bytes_of text w) (words_of (drop w.end (take end text))) (a_word text at end w x h) store' slots' refs' e (f s.now_names s.laid_now) p room;

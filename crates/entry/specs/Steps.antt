@@ -13,11 +13,7 @@ use Rattle.paper.specs.Tables.Lent.{patch, padded}
 use Rattle.paper.specs.declared.Counts.{Counts}
 use Rattle.scan.specs.Marks.{words_bytes, gap_width}
 use Rattle.slot.specs.Laid.{Laid}
-use Rattle.entry.specs.declared.Names.{Names}
-use Rattle.entry.specs.declared.NamesStep.{NamesStep}
-use Rattle.entry.specs.declared.NamesStep.TheVariants.{Done, NoName}
-use Rattle.entry.specs.declared.LineStep.{LineStep}
-use Rattle.entry.specs.declared.LineStep.TheVariants.{Next, Stop}
+use Rattle.std.specs.Prelude.{Err, Ok, Result}
 
 -- a length, where a parameter is named so
 abbrev pub long : List ℕ → ℕ
@@ -45,30 +41,31 @@ enter_found_bytes r (found l) = enter_bytes r l
 
 -- ---- names
 
--- names that stand in a part of the text can be entered, and their numbers have room from place n on
-pub record Ready (store slots refs text : List ℕ) (n count bytes start end : ℕ) : Type 0 where
+-- names that stand in a part of the text can be entered, and their numbers have room behind the others
+pub record Ready (store slots refs text : List ℕ) (c : Counts) (start end : ℕ) : Type 0 where
   pub store_long : max_name_bytes ≤ length store
   pub slots_long : max_categories ≤ length slots
   pub names : List (List ℕ)
-  pub laid : Laid names store slots count bytes
+  pub laid : Laid names store slots c.categories c.bytes
   pub order : start ≤ end
   pub within : end ≤ length text
-  pub room : reference_size * (n + length (words_of (drop start (take end text)))) ≤ length refs
-  pub few : n + length (words_of (drop start (take end text))) ≤ max_references
+  pub room : reference_size * (c.references + length (words_of (drop start (take end text)))) ≤ length refs
+  pub few : c.references + length (words_of (drop start (take end text))) ≤ max_references
 
 -- all these were entered, and their numbers stand in the reference table
-pub record AllIn (names : List (List ℕ)) (ws : List (List ℕ)) (n : ℕ) (refs₀ store slots refs : List ℕ) (d : Names) : Type 0 where
+pub record AllIn (names : List (List ℕ)) (ws : List (List ℕ)) (c : Counts) (refs₀ store slots refs : List ℕ) (d : Counts) : Type 0 where
   pub now_names : List (List ℕ)
   pub entered : intern ws names ≡ names_are now_names
-  pub laid_now : Laid now_names store slots d.count d.bytes
-  pub next_is : d.next ≡ n + length ws
-  pub put : refs ≡ patch (reference_size * n) (joined (map (le reference_size) (map (λ w. position_of same w now_names) ws))) refs₀
+  pub laid_now : Laid now_names store slots d.categories d.bytes
+  pub references_are : d.references ≡ c.references + length ws
+  pub definitions_stay : d.definitions ≡ c.definitions
+  pub put : refs ≡ patch (reference_size * c.references) (joined (map (le reference_size) (map (λ w. position_of same w now_names) ws))) refs₀
 
-abbrev pub EntersAll : (store₀ slots₀ refs₀ : List ℕ) (n count bytes : ℕ) (ws : List (List ℕ)) (store₁ slots₁ refs₁ : List ℕ) → NamesStep → Type 0
-EntersAll store₀ slots₀ refs₀ n count bytes ws store₁ slots₁ refs₁ (Done d) =
-    (names : List (List ℕ)) → Laid names store₀ slots₀ count bytes → AllIn names ws n refs₀ store₁ slots₁ refs₁ d
-EntersAll store₀ slots₀ refs₀ n count bytes ws store₁ slots₁ refs₁ (NoName k) =
-    (names : List (List ℕ)) → Laid names store₀ slots₀ count bytes → intern ws names ≡ full_at k
+abbrev pub EntersAll : (store₀ slots₀ refs₀ : List ℕ) (c : Counts) (ws : List (List ℕ)) (store₁ slots₁ refs₁ : List ℕ) → Result Counts ℕ → Type 0
+EntersAll store₀ slots₀ refs₀ c ws store₁ slots₁ refs₁ (Ok d) =
+    (names : List (List ℕ)) → Laid names store₀ slots₀ c.categories c.bytes → AllIn names ws c refs₀ store₁ slots₁ refs₁ d
+EntersAll store₀ slots₀ refs₀ c ws store₁ slots₁ refs₁ (Err k) =
+    (names : List (List ℕ)) → Laid names store₀ slots₀ c.categories c.bytes → intern ws names ≡ full_at k
 
 -- ---- lines
 
@@ -109,6 +106,6 @@ pub record Went (s : Step) (m : Memory) (c : Counts) : Type 0 where
   pub held : Held after m c
 
 -- a line was entered as the paper enters it
-abbrev pub Stepped : (Reading → Step) → Memory → Counts → Memory → LineStep → Type 0
-Stepped f m c m' (Next d) = (r : Reading) → Held r m c → Went (f r) m' d
-Stepped f m c m' (Stop k) = (r : Reading) → Held r m c → f r ≡ stop k
+abbrev pub Stepped : (Reading → Step) → Memory → Counts → Memory → Result Counts ℕ → Type 0
+Stepped f m c m' (Ok d) = (r : Reading) → Held r m c → Went (f r) m' d
+Stepped f m c m' (Err k) = (r : Reading) → Held r m c → f r ≡ stop k

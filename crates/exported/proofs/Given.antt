@@ -11,11 +11,10 @@ use Rattle.paper.specs.Tables.Lent.{zeroed, patch}
 use Rattle.paper.specs.Tables.Reader.{clears}
 use Rattle.paper.specs.declared.Counts.{Counts}
 use Rattle.paper.specs.declared.Refusal.{Refusal}
-use Rattle.paper.specs.declared.Outcome.{Outcome}
-use Rattle.paper.specs.declared.Outcome.TheVariants.{Accepted, Refused}
 use Rattle.paper.proofs.Tables.Append.{patch_patch}
 use Rattle.exported.specs.Answer.{place_unit, code_of, counts_size, count_bytes, counts_after}
 use Rattle.exported.specs.Room.{Gives}
+use Rattle.std.specs.Prelude.{Err, Ok, Result}
 
 -- ---- counts
 
@@ -39,12 +38,12 @@ module _ {x b : Bool} (u v : List ℕ) (e : x ≡ b) where
   pub left_is : x ≡ false → v ≡ cond b u v
   left_is f = sym (ap (λ y. cond y u v) (sym e ∙ f))
 
-module _ (o : Outcome) (before after : List ℕ) where
-  pub gives_counts : (n : Counts) → o ≡ Accepted n → after ≡ patch 0 (count_bytes n) before → Gives o before after 0
+module _ (o : Result Counts Refusal) (before after : List ℕ) where
+  pub gives_counts : (n : Counts) → o ≡ Ok n → after ≡ patch 0 (count_bytes n) before → Gives o before after 0
   unfolding counts_after
   gives_counts n e h = record { number = sym (ap code_of e); counts = h ∙ sym (ap (λ x. counts_after x before) e) }
 
-  pub gives_refusal : (x : Refusal) (r : ℕ) → o ≡ Refused x → after ≡ cond (clears x.number) (zeroed counts_size before) before
+  pub gives_refusal : (x : Refusal) (r : ℕ) → o ≡ Err x → after ≡ cond (clears x.number) (zeroed counts_size before) before
       → r ≡ x.number + place_unit * x.place → Gives o before after r
   unfolding counts_after
   gives_refusal x r e h k = record { number = k ∙ sym (ap code_of e); counts = h ∙ sym (ap (λ y. counts_after y before) e) }

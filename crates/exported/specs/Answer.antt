@@ -8,17 +8,17 @@ use Rattle.paper.specs.Tables.Layout.{Tables}
 use Rattle.paper.specs.Tables.Lent.{zeroed, patch}
 use Rattle.paper.specs.Tables.Reader.{in_lent, given, clears, leaves}
 use Rattle.paper.specs.declared.Counts.{Counts}
-use Rattle.paper.specs.declared.Outcome.{Outcome}
-use Rattle.paper.specs.declared.Outcome.TheVariants.{Accepted, Refused}
+use Rattle.std.specs.Prelude.{Err, Ok, Result}
+use Rattle.paper.specs.declared.Refusal.{Refusal}
 
 -- ---- one number: 0, or number + 256 · place
 
 abbrev pub place_unit : ℕ
 place_unit = 256
 
-abbrev pub code_of : Outcome → ℕ
-code_of (Accepted n) = 0
-code_of (Refused x) = x.number + place_unit * x.place
+abbrev pub code_of : Result Counts Refusal → ℕ
+code_of (Ok n) = 0
+code_of (Err x) = x.number + place_unit * x.place
 
 -- ---- the counts: five numbers of two bytes
 
@@ -30,10 +30,10 @@ abbrev pub counts_size : ℕ
 counts_size = 10
 
 -- they are part of the room: written on acceptance, zero or kept with the rest of it otherwise
-unfoldable pub counts_after : Outcome → List ℕ → List ℕ
+unfoldable pub counts_after : Result Counts Refusal → List ℕ → List ℕ
 unfolding clears
-counts_after (Accepted n) l = patch 0 (count_bytes n) l
-counts_after (Refused x) l = cond (clears x.number) (zeroed counts_size l) l
+counts_after (Ok n) l = patch 0 (count_bytes n) l
+counts_after (Err x) l = cond (clears x.number) (zeroed counts_size l) l
 
 -- ---- a reader's entry
 

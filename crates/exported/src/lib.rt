@@ -1,13 +1,16 @@
 // What C gets of an outcome: one number, and the counts in a lent slice. The entries stand above, in `terminal` and `terminal_unk`.
 #![tactic(auto)]
 
-ghost use Rattle.std.specs.Prelude.{◌≡◌, cond, ◌≤◌, length};
+ghost use Rattle.std.specs.Prelude.{◌≡◌, cond, ◌+◌, ◌*◌, ◌<◌, ◌≤◌, length};
 ghost use Rattle.paper.specs.Tables.Reader.{clears};
 ghost use Rattle.paper.specs.Tables.Lent.{patch, zeroed};
-ghost use Rattle.exported.specs.Answer.{counts_size, count_bytes};
+ghost use Rattle.exported.specs.Answer.{place_unit, counts_size, count_bytes};
 ghost use Rattle.exported.specs.Room.{Exportable, Sixteen, Gives};
 
-use paper::{Counts, Outcome};
+use paper::{
+    Counts, NAME_BYTES_FULL, PACK_LEFT_OVER, PACK_VERSION, RANGE_PARTS, Refusal, UNK_ENTRIES_FULL,
+    UNK_FIELDS,
+};
 
 // The counts of a reading, five numbers of two bytes.
 pub const COUNTS_SIZE: usize = 10;
@@ -27,25 +30,10 @@ pub const PLACE_UNIT: u64 = 256;
 fn is_clearing(number: u32) -> bool
     ensures { result ≡ clears number }
 {
-    if number < paper::RANGE_PARTS {
-        return false;
-    }
-    if number <= paper::NAME_BYTES_FULL {
-        return true;
-    }
-    if number < paper::PACK_VERSION {
-        return false;
-    }
-    if number <= paper::PACK_LEFT_OVER {
-        return true;
-    }
-    if number < paper::UNK_FIELDS {
-        return false;
-    }
-    if number <= paper::UNK_ENTRIES_FULL {
-        return true;
-    }
-    false
+    matches!(
+        number,
+        RANGE_PARTS..=NAME_BYTES_FULL | PACK_VERSION..=PACK_LEFT_OVER | UNK_FIELDS..=UNK_ENTRIES_FULL
+    )
 }
 
 // What a refusal leaves of counts of this size.
@@ -54,8 +42,17 @@ pub fn leave_counts(counts: &mut [u8], size: usize, number: u32)
 {
     if is_clearing(number) {
         table::zero(counts, size);
-        return;
     }
+}
+
+// A refusal as C gets it: its number and its place in one, and what it leaves of counts of this size.
+pub fn refuse(x: Refusal, counts: &mut [u8], size: usize) -> u64
+    requires { x.place < 0x1_0000_0000 }
+    ensures number { result ≡ x.number + place_unit * x.place }
+    ensures left { counts.new ≡ cond (clears x.number) (zeroed size counts.old) counts.old }
+{
+    leave_counts(counts, size, x.number);
+    u64::from(x.number) + PLACE_UNIT * x.place as u64
 }
 
 fn put_counts(counts: &mut [u8], n: Counts)
@@ -71,19 +68,16 @@ fn put_counts(counts: &mut [u8], n: Counts)
 }
 
 // An outcome as C gets it: the number, and the counts or what a refusal leaves in their place.
-pub fn give(outcome: Outcome, counts: &mut [u8]) -> u64
+pub fn give(outcome: Result<Counts, Refusal>, counts: &mut [u8]) -> u64
     requires counts_size_in_bounds { counts_size ≤ length counts.old }
     requires exportable { Exportable outcome }
     ensures { Gives outcome counts.old counts.new result }
 {
     match outcome {
-        Outcome::Accepted(n) => {
+        Ok(n) => {
             put_counts(counts, n);
             0
         }
-        Outcome::Refused(x) => {
-            leave_counts(counts, COUNTS_SIZE, x.number);
-            x.number as u64 + PLACE_UNIT * x.place as u64
-        }
+        Err(x) => refuse(x, counts, COUNTS_SIZE),
     }
 }

@@ -1,57 +1,47 @@
--- Where a line ends, and the lines that are left behind it. The scan keeps that what it passed holds no LF; a text's lines from a place on
--- are the bytes up to the next LF, and the lines from behind it.
+-- Where a line ends, and the lines that are left behind it: a text's lines from a place on are the bytes up to the next LF, and the lines from
+-- behind it.
 -- Assumes nothing.
 use Prim.Native.Nat.{ℕ, suc, ◌+◌, ◌-◌, ◌≤◌, ◌<◌}
-use native.Mathlib.Numerals.{add-one}
 use native.Mathlib.Omega.{arith}
 use mathlib.Core.Path.{◌≡◌, refl, sym, ap, ap₂, ◌∙◌}
 use mathlib.Core.Bool.{Bool, true, false, cond}
 use mathlib.Core.List.{List, [], ◌∷◌}
 use lib.Dec.{ltb}
-use lib.ListN.{length, take, drop, get_or, length-drop, drop_of_length-le}
-use lib.Seq.{drop-cons, drop-drop}
-use borrow.Author.Tests.{le-leb, lt-leb, ltb-true, ltb-false, ne_eqb}
+use lib.ListN.{length, take, drop, length-drop}
+use lib.Seq.{drop-drop}
+use borrow.Author.Tests.{le-leb, lt-leb, ltb-true, ltb-false}
 use Rattle.paper.specs.Lists.{until, cut, push}
-use Rattle.paper.specs.Text.Scalar.{lf}
 use Rattle.paper.specs.CharDef.Reading.{is_lf}
 use Rattle.paper.proofs.Lists.Parts.{take_part}
+use Rattle.std.specs.Prelude.{Option, Some, None}
+use Rattle.std.specs.Option.{unwrap_or}
+use Rattle.std.specs.List.{position_or_len}
+use Rattle.std.proofs.lemmas.Slice.{between_to_end}
+use Rattle.std.proofs.lemmas.List.Recursion.{is_position_or_len}
 use Rattle.entry.proofs.Inside.{until_length}
 use Rattle.lines.specs.Lines.{lines_from}
 
 -- ---- the scan
 
--- the line that begins at `start` goes on from `at`
-pub record Seeking (text : List ℕ) (start at : ℕ) : Type 0 where
-  pub order : start ≤ at
-  pub is : at + length (until is_lf (drop at text)) ≡ start + length (until is_lf (drop start text))
+-- how many stand before the first is its position
+until_is : (p : ℕ → Bool) (l : List ℕ) → length (until p l) ≡ position_or_len p l
+until_is p = is_position_or_len (λ (l : List ℕ). length (until p l)) p refl (λ x xs. go x xs (p x))
+  where
+    go : (x : ℕ) (xs : List ℕ) (b : Bool) → length (cond b [] (x ∷ until p xs)) ≡ cond b 0 (1 + length (until p xs))
+    go x xs true = refl
+    go x xs false = omega arith
 
-pub seek_start : (text : List ℕ) (start : ℕ) → Seeking text start start
-seek_start text start = record { order = omega arith; is = refl }
+pub found_or_end : (p : ℕ → Bool) (l : List ℕ) {r : Option ℕ} → r ≡ cond (ltb (position_or_len p l) (length l)) (Some (position_or_len p l)) None
+    → unwrap_or r (length l) ≡ length (until p l)
+found_or_end p l e = ap (λ o. unwrap_or o (length l)) e ∙ go (ltb (position_or_len p l) (length l)) refl
+  where
+    go : (b : Bool) → ltb (position_or_len p l) (length l) ≡ b → unwrap_or (cond b (Some (position_or_len p l)) None) (length l) ≡ length (until p l)
+    go true e = sym (until_is p l)
+    go false e = let h = ltb-false (position_or_len p l) (length l) e in omega (arith, until_is p l, until_length p l)
 
-module _ {text : List ℕ} {start at : ℕ} (z : Seeking text start at) where
-  pub seek_found : at < length text → get_or text at 0 ≡ lf → at ≡ start + length (until is_lf (drop start text))
-  seek_found h e =
-      let a : length (until is_lf (drop at text)) ≡ 0
-      = ap (λ l. length (until is_lf l)) (drop-cons text at 0 h) ∙ ap (λ b. length (until is_lf (b ∷ drop (suc at) text))) e in
-      let i = z.is in
-      omega arith
-
-  pub seek_on : at < length text → (get_or text at 0 ≡ lf → ⊥) → Seeking text start (at + 1)
-  seek_on h n =
-      let a : length (until is_lf (drop at text)) ≡ suc (length (until is_lf (drop (at + 1) text)))
-      = ap (λ l. length (until is_lf l)) (drop-cons text at 0 h) ∙ go (get_or text at 0) n ∙ ap (λ k. suc (length (until is_lf (drop k text)))) (sym (add-one at)) in
-      let i = z.is in
-      let o = z.order in
-      record { order = omega arith; is = omega arith }
-    where
-      go : (b : ℕ) → (b ≡ lf → ⊥) → length (until is_lf (b ∷ drop (suc at) text)) ≡ suc (length (until is_lf (drop (suc at) text)))
-      go b n = rw (ne_eqb b lf n)
-
-  pub seek_end : length text ≤ at → at ≡ start + length (until is_lf (drop start text))
-  seek_end h =
-      let a : length (until is_lf (drop at text)) ≡ 0 = ap (λ l. length (until is_lf l)) (drop_of_length-le text h) in
-      let i = z.is in
-      omega arith
+-- the line that begins at a place ends in the text
+pub line_ends : (text : List ℕ) (at : ℕ) {n : ℕ} → n ≡ length (until is_lf (take (length text - at) (drop at text))) → at + n ≡ at + length (until is_lf (drop at text))
+line_ends text at e = ap (λ k. at + k) (e ∙ ap (λ l. length (until is_lf l)) (between_to_end text at (length text) (omega arith)))
 
 -- ---- the pieces of a cut
 

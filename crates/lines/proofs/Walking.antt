@@ -3,7 +3,7 @@
 use Prim.Native.Nat.{ℕ, suc, ◌+◌, ◌*◌, ◌≤◌, ◌<◌}
 use native.Mathlib.Numerals.{add-one}
 use native.Mathlib.Omega.{arith}
-use mathlib.Core.Path.{◌≡◌, sym, ap, ◌∙◌}
+use mathlib.Core.Path.{◌≡◌, refl, sym, ap, ◌∙◌}
 use mathlib.Core.List.{List, map}
 use lib.ListN.{length, take, drop}
 use Rattle.paper.specs.Sizes.{max_text_bytes, max_categories, max_name_bytes, max_category_lines, max_ranges, max_references}
@@ -12,7 +12,10 @@ use Rattle.paper.specs.Numbers.Bytes.{le}
 use Rattle.paper.specs.CharDef.Reading.{Reading, refused, name_bytes, is_lf}
 use Rattle.paper.specs.Computed.ReadText.{stop, after_line, nothing_read}
 use Rattle.paper.specs.Tables.Layout.{range_slots, definition_bytes, slot_bytes, numbers_of, definition_size, range_slot_size, reference_size}
+use Rattle.std.specs.Prelude.{Result, Ok, Err}
+use Rattle.std.specs.Result.{MatchResult, IsErrAnd}
 use Rattle.paper.specs.declared.Counts.{Counts}
+use Rattle.paper.specs.declared.Refusal.{Refusal}
 use Rattle.paper.proofs.Lists.Facts.{joined_length}
 use Rattle.paper.proofs.Tables.Append.{padded_length}
 use Rattle.paper.proofs.Tables.Laws.{table_length}
@@ -73,6 +76,18 @@ module _ {r : Reading} {m : Memory} {c : Counts} (z : Held r m c) where
         ranges_long = ranges_long;
         references_long = references_long;
       }
+
+-- ---- what a refused line's number becomes
+
+module _ (Q : ℕ → Refusal → Type 0) where
+  pub went_on : (s : Result Counts ℕ) {r : Result Counts Refusal} {d : Counts} → MatchResult s (λ c. r ≡ Ok c) (λ k. IsErrAnd r (Q k)) → r ≡ Ok d → s ≡ Ok d
+  went_on (Ok c) m e = let z : ◌≡◌ {A = Result Counts Refusal} (Ok c) (Ok _) = sym m ∙ e in cc
+  went_on (Err k) m e = absurd (rw e at m)
+
+  pub went_wrong : (s : Result Counts ℕ) {r : Result Counts Refusal} {x : Refusal} (line : ℕ) → MatchResult s (λ c. r ≡ Ok c) (λ k. IsErrAnd r (Q k)) → r ≡ Err x
+      → ((k : ℕ) (y : Refusal) → Q k y → y ≡ record { number = k; place = line }) → (k : ℕ) × (s ≡ Err k) × (x ≡ record { number = k; place = line })
+  went_wrong (Ok c) line m e q = cc
+  went_wrong (Err k) line m e q = (k, refl, q k _ (rw e at m))
 
 -- ---- the loop
 

@@ -6,9 +6,9 @@ use Rattle.paper.specs.CharDef.Reading.{Reading, Answer, accepted, refused, is_l
 use Rattle.paper.specs.Computed.ReadText.{after_line, nothing_read}
 use Rattle.paper.specs.declared.Counts.{Counts}
 use Rattle.line.specs.Bytes.{line_bytes}
-use Rattle.lines.specs.declared.Walk.{Walk}
-use Rattle.lines.specs.declared.Walk.TheVariants.{Ended, Stopped}
 use Rattle.entry.specs.Steps.{Memory, Held, enter_found_bytes}
+use Rattle.std.specs.Prelude.{Err, Ok, Result}
+use Rattle.paper.specs.declared.Refusal.{Refusal}
 
 -- lines as bytes, from line k, entered behind a reading
 unfoldable pub read_bytes : ℕ → List (List ℕ) → Reading → Answer
@@ -32,6 +32,6 @@ pub record WalkEnded (a : Answer) (m : Memory) (c : Counts) : Type 0 where
   pub is : a ≡ accepted reading
   pub held : Held reading m c
 
-abbrev pub Walked : Answer → Memory → Walk → Type 0
-Walked a m (Ended c) = WalkEnded a m c
-Walked a m (Stopped x) = a ≡ refused x.number x.place
+abbrev pub Walked : Answer → Memory → Result Counts Refusal → Type 0
+Walked a m (Ok c) = WalkEnded a m c
+Walked a m (Err x) = a ≡ refused x.number x.place

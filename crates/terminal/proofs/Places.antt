@@ -14,13 +14,15 @@ use Rattle.paper.specs.Computed.ReadText.{read_text}
 use Rattle.paper.specs.Computed.ReadPack.{read_pack}
 use Rattle.paper.specs.Tables.Layout.{Tables, counts_of}
 use Rattle.paper.specs.Tables.Reader.{has_room, in_lent, given, Reads}
-use Rattle.paper.specs.declared.Outcome.{Outcome}
 use Rattle.paper.proofs.CharDef.Accepts.{accepts}
 use Rattle.paper.proofs.CharDef.Answers.{refused_text}
 use Rattle.paper.proofs.Pack.Broken.{refused_exactly}
 use Rattle.paper.proofs.Pack.Trip.{pack_is}
 use Rattle.exported.specs.Room.{Exportable}
 use Rattle.terminal.proofs.PackPlaces.{broken_near}
+use Rattle.std.specs.Prelude.{Result}
+use Rattle.paper.specs.declared.Counts.{Counts}
+use Rattle.paper.specs.declared.Refusal.{Refusal}
 
 -- an answer that has room
 abbrev pub Small : Answer → Type 0
@@ -33,7 +35,7 @@ exportable (accepted q) w =
     record { categories = omega arith; definitions = omega arith; ranges = omega arith; references = omega arith; bytes = omega arith }
 exportable (refused n place) h = h
 
-pub outcome_fits : (a : Answer) → Small a → (lent left : Tables) (o : Outcome) → Reads a lent left o → Exportable o
+pub outcome_fits : (a : Answer) → Small a → (lent left : Tables) (o : Result Counts Refusal) → Reads a lent left o → Exportable o
 unfolding in_lent
 outcome_fits a s lent left o p = subst Exportable (sym p.answer) (exportable (in_lent lent a) (by_room (has_room lent)))
   where

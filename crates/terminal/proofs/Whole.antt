@@ -10,12 +10,14 @@ use Rattle.paper.specs.Refusals.{room_short}
 use Rattle.paper.specs.CharDef.Reading.{Answer, refused}
 use Rattle.paper.specs.Tables.Layout.{Tables}
 use Rattle.paper.specs.Tables.Reader.{in_lent, given, clears, leaves, Reads}
-use Rattle.paper.specs.declared.Outcome.{Outcome}
 use Rattle.exported.specs.Answer.{code_of, counts_size, counts_after, over_lent, Exports}
 use Rattle.exported.specs.Room.{Gives}
+use Rattle.std.specs.Prelude.{Result}
+use Rattle.paper.specs.declared.Counts.{Counts}
+use Rattle.paper.specs.declared.Refusal.{Refusal}
 
 module _ (a : Answer) (lent left : Tables) (counts after : List ℕ) where
-  pub exports : (o : Outcome) (r : ℕ) → counts_size ≤ length counts → Reads a lent left o → Gives o counts after r → Exports a lent left counts after r
+  pub exports : (o : Result Counts Refusal) (r : ℕ) → counts_size ≤ length counts → Reads a lent left o → Gives o counts after r → Exports a lent left counts after r
   unfolding over_lent
   exports o r h p g =
       let e : over_lent counts lent a ≡ in_lent lent a = ap (λ b. cond b (in_lent lent a) (refused room_short 0)) (le-leb counts_size (length counts) h) in

@@ -30,7 +30,7 @@ pub fn twinebeetle_read_char_def(
     ensures { Exports (read_text text.now) (record { names = names.old; categories = categories.old; definitions = definitions.old; ranges = ranges.old; references = references.old }) (record { names = names.new; categories = categories.new; definitions = definitions.new; ranges = ranges.new; references = references.new }) counts.old counts.new result }
 {
     if counts.len() < COUNTS_SIZE {
-        return ROOM_SHORT as u64;
+        return u64::from(ROOM_SHORT);
     }
     let outcome = char_def::parse(text, names, categories, definitions, ranges, references);
     exported::give(outcome, counts)
@@ -49,7 +49,7 @@ pub fn twinebeetle_read_pack(
     ensures { Exports (read_pack pack.now) (record { names = names.old; categories = categories.old; definitions = definitions.old; ranges = ranges.old; references = references.old }) (record { names = names.new; categories = categories.new; definitions = definitions.new; ranges = ranges.new; references = references.new }) counts.old counts.new result }
 {
     if counts.len() < COUNTS_SIZE {
-        return ROOM_SHORT as u64;
+        return u64::from(ROOM_SHORT);
     }
     let outcome = pack::read_pack(pack, names, categories, definitions, ranges, references);
     exported::give(outcome, counts)

@@ -18,10 +18,12 @@ use Rattle.paper.specs.declared.Counts.{Counts}
 use Rattle.paper.proofs.Unk.Details.{details_fit}
 use Rattle.paper.proofs.Unk.Refused.{unk_refused_exactly}
 use Rattle.paper.proofs.Unk.Text.{unk_accepts}
-use Rattle.unk.specs.declared.UnkOutcome.{UnkOutcome}
 use Rattle.unk.specs.Layout.{UnkTables}
 use Rattle.unk.specs.Parse.{has_room, over_reading, answer_to, counts_of, given, ParsesUnk}
 use Rattle.terminal_unk.specs.Room.{Countable, Exportable}
+use Rattle.std.specs.Prelude.{Result}
+use Rattle.paper.specs.declared.Refusal.{Refusal}
+use Rattle.unk_enter.specs.declared.UnkCounts.{UnkCounts}
 
 -- an answer that has room
 abbrev Small : UnkAnswer → Type 0
@@ -55,7 +57,7 @@ over_small : (o : Option Reading) (text : List ℕ) → Small (over_reading o te
 over_small none text = omega arith
 over_small (some q) text = unk_small q.names text
 
-pub outcome_fits : (t : Tables) (n : Counts) (text : List ℕ) (lent left : UnkTables) (o : UnkOutcome) → ParsesUnk t n text lent left o → Exportable o
+pub outcome_fits : (t : Tables) (n : Counts) (text : List ℕ) (lent left : UnkTables) (o : Result UnkCounts Refusal) → ParsesUnk t n text lent left o → Exportable o
 unfolding answer_to
 outcome_fits t n text lent left o p = subst Exportable (sym p.answer) (by_room (has_room lent))
   where

@@ -22,13 +22,12 @@ use Rattle.paper.specs.declared.Refusal.{Refusal}
 use Rattle.paper.proofs.Tables.Append.{patch_patch}
 use Rattle.paper.proofs.Tables.Laws.{got_in}
 use Rattle.unk_enter.specs.declared.UnkCounts.{UnkCounts}
-use Rattle.unk.specs.declared.UnkOutcome.{UnkOutcome}
-use Rattle.unk.specs.declared.UnkOutcome.TheVariants.{Accepted, Refused}
 use Rattle.unk.specs.Layout.{UnkTables}
 use Rattle.unk.specs.Parse.{has_room, over_reading, answer_to, given, leaves, ParsesUnk}
 use Rattle.exported.specs.Answer.{place_unit, counts_size}
 use Rattle.terminal_unk.specs.Answer.{code_of, unk_count_bytes, unk_counts_size, counts_after, counts_in, handed_over, answer_over, ExportsUnk}
 use Rattle.terminal_unk.specs.Room.{no_counts, counts_read, Gives}
+use Rattle.std.specs.Prelude.{Err, Ok, Result}
 
 -- ---- counts
 
@@ -78,12 +77,12 @@ handed_same t l = go (leb counts_size (length l))
 
 -- ---- an outcome as C gets it
 
-module _ (o : UnkOutcome) (before after : List ℕ) where
-  pub gives_counts : (n : UnkCounts) → o ≡ Accepted n → after ≡ patch 0 (unk_count_bytes n) before → Gives o before after 0
+module _ (o : Result UnkCounts Refusal) (before after : List ℕ) where
+  pub gives_counts : (n : UnkCounts) → o ≡ Ok n → after ≡ patch 0 (unk_count_bytes n) before → Gives o before after 0
   unfolding counts_after
   gives_counts n e h = record { number = sym (ap code_of e); counts = h ∙ sym (ap (λ x. counts_after x before) e) }
 
-  pub gives_refusal : (x : Refusal) (r : ℕ) → o ≡ Refused x → after ≡ cond (clears x.number) (zeroed unk_counts_size before) before
+  pub gives_refusal : (x : Refusal) (r : ℕ) → o ≡ Err x → after ≡ cond (clears x.number) (zeroed unk_counts_size before) before
       → r ≡ x.number + place_unit * x.place → Gives o before after r
   unfolding counts_after
   gives_refusal x r e h k = record { number = k ∙ sym (ap code_of e); counts = h ∙ sym (ap (λ y. counts_after y before) e) }
@@ -98,7 +97,7 @@ module _ (t : Tables) (counts text : List ℕ) (lent left : UnkTables) (room aft
       ∙ ap (λ x. cond (has_room lent) (over_reading x text) (refused room_short 0)) (handed_same t counts)
       ∙ sym (ap (λ b. cond (b && has_room lent) (over_reading (handed_over t counts) text) (refused room_short 0)) (le-leb unk_counts_size (length room) h))
 
-  pub exports : (n : Counts) (o : UnkOutcome) (r : ℕ) → unk_counts_size ≤ length room → n ≡ counts_read counts → ParsesUnk t n text lent left o
+  pub exports : (n : Counts) (o : Result UnkCounts Refusal) (r : ℕ) → unk_counts_size ≤ length room → n ≡ counts_read counts → ParsesUnk t n text lent left o
       → Gives o room after r → ExportsUnk t counts text lent left room after r
   exports n o r h e p g =
       let q : o ≡ given (answer_over t counts text lent room) = p.answer ∙ ap given (over_is n h e) in

@@ -13,17 +13,17 @@ use Rattle.paper.specs.Tables.Reader.{clears}
 use Rattle.paper.specs.Unk.Bad.{UnkAnswer, refused}
 use Rattle.paper.specs.declared.Counts.{Counts}
 use Rattle.unk_enter.specs.declared.UnkCounts.{UnkCounts}
-use Rattle.unk.specs.declared.UnkOutcome.{UnkOutcome}
-use Rattle.unk.specs.declared.UnkOutcome.TheVariants.{Accepted, Refused}
 use Rattle.unk.specs.Layout.{UnkTables}
 use Rattle.unk.specs.Parse.{has_room, over_reading, given, leaves}
 use Rattle.exported.specs.Answer.{place_unit, counts_size}
+use Rattle.std.specs.Prelude.{Err, Ok, Result}
+use Rattle.paper.specs.declared.Refusal.{Refusal}
 
 -- ---- one number: 0, or number + 256 · place
 
-abbrev pub code_of : UnkOutcome → ℕ
-code_of (Accepted n) = 0
-code_of (Refused x) = x.number + place_unit * x.place
+abbrev pub code_of : Result UnkCounts Refusal → ℕ
+code_of (Ok n) = 0
+code_of (Err x) = x.number + place_unit * x.place
 
 -- ---- the counts of what was read: entries in two bytes, detail bytes in four
 
@@ -34,10 +34,10 @@ abbrev pub unk_counts_size : ℕ
 unk_counts_size = 6
 
 -- they are part of the room: written on acceptance, zero or kept with the rest of it otherwise
-unfoldable pub counts_after : UnkOutcome → List ℕ → List ℕ
+unfoldable pub counts_after : Result UnkCounts Refusal → List ℕ → List ℕ
 unfolding clears
-counts_after (Accepted n) l = patch 0 (unk_count_bytes n) l
-counts_after (Refused x) l = cond (clears x.number) (zeroed unk_counts_size l) l
+counts_after (Ok n) l = patch 0 (unk_count_bytes n) l
+counts_after (Err x) l = cond (clears x.number) (zeroed unk_counts_size l) l
 
 -- ---- what is handed in
 

@@ -5,10 +5,10 @@ use Rattle.std.specs.Prelude.{ℕ, ◌+◌, ◌<◌, ◌≡◌, cond, List, leb,
 use Rattle.paper.specs.Sizes.{max_categories}
 use Rattle.paper.specs.declared.Counts.{Counts}
 use Rattle.unk_enter.specs.declared.UnkCounts.{UnkCounts}
-use Rattle.unk.specs.declared.UnkOutcome.{UnkOutcome}
-use Rattle.unk.specs.declared.UnkOutcome.TheVariants.{Accepted, Refused}
 use Rattle.exported.specs.Answer.{counts_size}
 use Rattle.terminal_unk.specs.Answer.{code_of, counts_in, counts_after}
+use Rattle.std.specs.Prelude.{Err, Ok, Result}
+use Rattle.paper.specs.declared.Refusal.{Refusal}
 
 -- more categories than any reading has
 abbrev pub no_counts : Counts
@@ -22,10 +22,10 @@ pub record Countable (n : UnkCounts) : Type 0 where
   pub entries : n.entries < 0x1_0000
   pub bytes : n.bytes < 0x1_0000_0000
 
-abbrev pub Exportable : UnkOutcome → Type 0
-Exportable (Accepted n) = Countable n
-Exportable (Refused x) = x.place < 0x1_0000_0000
+abbrev pub Exportable : Result UnkCounts Refusal → Type 0
+Exportable (Ok n) = Countable n
+Exportable (Err x) = x.place < 0x1_0000_0000
 
-pub record Gives (o : UnkOutcome) (before after : List ℕ) (r : ℕ) : Type 0 where
+pub record Gives (o : Result UnkCounts Refusal) (before after : List ℕ) (r : ℕ) : Type 0 where
   pub number : r ≡ code_of o
   pub counts : after ≡ counts_after o before

@@ -7,9 +7,9 @@ ghost use Rattle.paper.specs.Tables.Lent.{patch};
 ghost use Rattle.terminal_unk.specs.Answer.{unk_counts_size, unk_count_bytes, ExportsUnk};
 ghost use Rattle.terminal_unk.specs.Room.{counts_read, Countable, Exportable, Gives};
 
-use exported::{BYTES_AT, COUNTS_SIZE, DEFINITIONS_AT, PLACE_UNIT, RANGES_AT, REFERENCES_AT};
-use paper::{Counts, MAX_CATEGORIES, ROOM_SHORT};
-use unk::UnkOutcome;
+use exported::{BYTES_AT, COUNTS_SIZE, DEFINITIONS_AT, RANGES_AT, REFERENCES_AT};
+use hold::Reading;
+use paper::{Counts, MAX_CATEGORIES, ROOM_SHORT, Refusal};
 use unk_enter::UnkCounts;
 
 // The counts of what was read: entries in two bytes, detail bytes in four.
@@ -34,11 +34,11 @@ fn get_counts(counts: &[u8]) -> Counts
         };
     }
     Counts {
-        categories: table::get_u16(counts, 0) as usize,
-        definitions: table::get_u16(counts, DEFINITIONS_AT) as usize,
-        ranges: table::get_u16(counts, RANGES_AT) as usize,
-        references: table::get_u16(counts, REFERENCES_AT) as usize,
-        bytes: table::get_u16(counts, BYTES_AT) as usize,
+        categories: usize::from(table::get_u16(counts, 0)),
+        definitions: usize::from(table::get_u16(counts, DEFINITIONS_AT)),
+        ranges: usize::from(table::get_u16(counts, RANGES_AT)),
+        references: usize::from(table::get_u16(counts, REFERENCES_AT)),
+        bytes: usize::from(table::get_u16(counts, BYTES_AT)),
     }
 }
 
@@ -52,20 +52,17 @@ fn put_counts(counts: &mut [u8], n: UnkCounts)
 }
 
 // An outcome as C gets it: the number, and the counts or what a refusal leaves in their place.
-fn give(outcome: UnkOutcome, counts: &mut [u8]) -> u64
+fn give(outcome: Result<UnkCounts, Refusal>, counts: &mut [u8]) -> u64
     requires unk_counts_size_in_bounds { unk_counts_size ≤ length counts.old }
     requires exportable { Exportable outcome }
     ensures { Gives outcome counts.old counts.new result }
 {
     match outcome {
-        UnkOutcome::Accepted(n) => {
+        Ok(n) => {
             put_counts(counts, n);
             0
         }
-        UnkOutcome::Refused(x) => {
-            exported::leave_counts(counts, UNK_COUNTS_SIZE, x.number);
-            x.number as u64 + PLACE_UNIT * x.place as u64
-        }
+        Err(x) => exported::refuse(x, counts, UNK_COUNTS_SIZE),
     }
 }
 
@@ -88,21 +85,16 @@ pub fn twinebeetle_read_unk<'a>(
     ensures { ExportsUnk (record { names = names.now; categories = categories.now; definitions = definitions.now; ranges = ranges.now; references = references.now }) counts.now text.now (record { entries = entries.old; offsets = offsets.old; details = details.old; places = places.old; members = members.old }) (record { entries = entries.new; offsets = offsets.new; details = details.new; places = places.new; members = members.new }) unk_counts.old unk_counts.new result }
 {
     if unk_counts.len() < UNK_COUNTS_SIZE {
-        return ROOM_SHORT as u64;
+        return u64::from(ROOM_SHORT);
     }
-    let outcome = unk::parse_unk(
+    let reading = Reading {
         names,
         categories,
         definitions,
         ranges,
         references,
-        get_counts(counts),
-        text,
-        entries,
-        offsets,
-        details,
-        places,
-        members,
-    );
+        counts: get_counts(counts),
+    };
+    let outcome = unk::parse_unk(&reading, text, entries, offsets, details, places, members);
     give(outcome, unk_counts)
 }

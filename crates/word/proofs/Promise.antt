@@ -40,14 +40,13 @@ use Rattle.unk.specs.Parse.{in_room, past, behind, entries_size, offsets_size, p
 use Rattle.unk.proofs.Promise.{FitsRoom, tables_fit}
 use Rattle.unk.proofs.Whole.{named, handed_true, handed_decoded}
 use Rattle.word.specs.declared.Span.{Span}
-use Rattle.word.specs.declared.SpanFound.TheVariants as span_found
 use Rattle.word.specs.declared.WordEntry.{WordEntry}
-use Rattle.word.specs.declared.WordFound.TheVariants as word_found
 use Rattle.word.specs.Words as specs
 use Rattle.word.specs.Words.{within, members_of, word_ids_in, word_entry_in, span_at, word_details_in, found, entry, held}
 use Rattle.word.specs.Left.{or_unknown, part_of, id_bytes, as_word}
 use Rattle.word.proofs.Words.{number_unknown_lem, entry_there, part_there}
 use Rattle.word.proofs.Entries.{found_below, entry_found, run_found, words_length, word_found, Stands, slot_found, Stored, stored_found}
+use Rattle.std.specs.Prelude.{Err, Ok}
 
 -- ---- a category's entries
 
@@ -227,18 +226,18 @@ part_is table (refuses k) l e = refuses_gives e
 
 -- refused by 15 where nothing is found, and by nothing else
 part_refused : (table : List ℕ) (a : Looked Span) (o : Option (List ℕ)) → part_of table a ≡ or_unknown o → (x : Refusal)
-    → (found a ≡ span_found.Refused x) ↔ ((o ≡ none) × (x ≡ unknown))
+    → (found a ≡ Err x) ↔ ((o ≡ none) × (x ≡ unknown))
 part_refused table (gives s) (some l) e x = (λ h. zero_one (cc), λ (h, i). none_some (sym h))
 part_refused table (gives s) none e x = refuses_gives (sym e)
 part_refused table (refuses k) (some l) e x = refuses_gives e
 part_refused table (refuses k) none e x =
     let i : k ≡ number_unknown = cc in
     let r : ◌≡◌ {A = Refusal} (record { number = k; place = 0 }) unknown = ap (λ m. record { number = m; place = 0 }) i in
-    (λ h. (refl, let j : x ≡ record { number = k; place = 0 } = cc in j ∙ r), λ (h, j). ap span_found.Refused (r ∙ sym j))
+    (λ h. (refl, let j : x ≡ record { number = k; place = 0 } = cc in j ∙ r), λ (h, j). ap Err (r ∙ sym j))
 
-word_refused : (a : Looked WordEntry) (o : Option WordEntry) → a ≡ or_unknown o → (x : Refusal) → (entry a ≡ word_found.Refused x) ↔ ((o ≡ none) × (x ≡ unknown))
+word_refused : (a : Looked WordEntry) (o : Option WordEntry) → a ≡ or_unknown o → (x : Refusal) → (entry a ≡ Err x) ↔ ((o ≡ none) × (x ≡ unknown))
 word_refused a (some w) e x = (λ h. let d = sym (ap entry e) ∙ h in zero_one (cc), λ (h, i). none_some (sym h))
-word_refused a none e x = (λ h. (refl, let d = sym (ap entry e) ∙ h in cc), λ (h, j). ap entry e ∙ ap word_found.Refused (sym j))
+word_refused a none e x = (λ h. (refl, let d = sym (ap entry e) ∙ h in cc), λ (h, j). ap entry e ∙ ap Err (sym j))
 
 -- ---- EACH LOOKUP BY ITS NUMBER, over the tables that `parse_unk` leaves: q is the reading that it worked from, u what the text says
 
@@ -336,20 +335,20 @@ module _ (t : Tables) (n : Counts) (q : Reading) (handed : handed_in t n ≡ som
   pub ids_held : (c : ℕ) (ks : List ℕ) → entries_of u c ≡ some ks → held left.members (word_ids_in left.places left.members n.categories c) ≡ id_bytes ks
   ids_held c ks e = part_is left.members (word_ids_in left.places left.members n.categories c) (id_bytes ks) (left_word_ids c ∙ ap (λ o. or_unknown (Option.map id_bytes o)) e)
 
-  pub ids_refused : (c : ℕ) (x : Refusal) → (found (word_ids_in left.places left.members n.categories c) ≡ span_found.Refused x) ↔ ((length q.names ≤ c) × (x ≡ unknown))
+  pub ids_refused : (c : ℕ) (x : Refusal) → (found (word_ids_in left.places left.members n.categories c) ≡ Err x) ↔ ((length q.names ≤ c) × (x ≡ unknown))
   ids_refused c x =
       let p = part_refused left.members (word_ids_in left.places left.members n.categories c) (Option.map id_bytes (entries_of u c)) (left_word_ids c) x in
       let m = map-eq-none_iff id_bytes (entries_of u c) in
       let r = category_unknown q.names text u f c in
       (λ h. (r.0 (m.0 (p.0 h).0), (p.0 h).1), λ (i, j). p.1 (m.1 (r.1 i), j))
 
-  pub word_held : (k : ℕ) (w : ℕ × ℕ × ℕ) → word_of u k ≡ some w → entry (word_entry_in left.entries (length u.word_entries) k) ≡ word_found.Entry (as_word w)
+  pub word_held : (k : ℕ) (w : ℕ × ℕ × ℕ) → word_of u k ≡ some w → entry (word_entry_in left.entries (length u.word_entries) k) ≡ Ok (as_word w)
   word_held k w e = ap entry (left_word k ∙ ap (λ o. or_unknown (Option.map as_word o)) e)
 
   past_entries : {A : Type 0} (o : Option A) (k : ℕ) → (o ≡ none) ↔ (length f.entries ≤ k) → (o ≡ none) ↔ (length u.word_entries ≤ k)
   past_entries o k r = (λ h. let a = r.0 h in let b = words_counted in omega arith, λ h. r.1 (let b = words_counted in omega arith))
 
-  pub entry_refused : (k : ℕ) (x : Refusal) → (entry (word_entry_in left.entries (length u.word_entries) k) ≡ word_found.Refused x) ↔ ((length u.word_entries ≤ k) × (x ≡ unknown))
+  pub entry_refused : (k : ℕ) (x : Refusal) → (entry (word_entry_in left.entries (length u.word_entries) k) ≡ Err x) ↔ ((length u.word_entries ≤ k) × (x ≡ unknown))
   entry_refused k x =
       let p = word_refused (word_entry_in left.entries (length u.word_entries) k) (Option.map as_word (word_of u k)) (left_word k) x in
       let m = map-eq-none_iff as_word (word_of u k) in
@@ -360,7 +359,7 @@ module _ (t : Tables) (n : Counts) (q : Reading) (handed : handed_in t n ≡ som
   details_held k l e = part_is left.details (word_details_in left.offsets left.details (length u.word_entries) k) l (left_details k ∙ ap or_unknown e)
 
   pub details_refused : (k : ℕ) (x : Refusal)
-      → (found (word_details_in left.offsets left.details (length u.word_entries) k) ≡ span_found.Refused x) ↔ ((length u.word_entries ≤ k) × (x ≡ unknown))
+      → (found (word_details_in left.offsets left.details (length u.word_entries) k) ≡ Err x) ↔ ((length u.word_entries ≤ k) × (x ≡ unknown))
   details_refused k x =
       let p = part_refused left.details (word_details_in left.offsets left.details (length u.word_entries) k) (details_of u k) (left_details k) x in
       let r = past_entries (details_of u k) k (details_unknown q.names text u f k) in

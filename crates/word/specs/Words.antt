@@ -11,11 +11,9 @@ use Rattle.paper.specs.Tables.Lent.{num}
 use Rattle.paper.specs.Unk.Entry.{length_bytes}
 use Rattle.unk_enter.specs.Fields.{entry_size, offset_size, right_at, cost_at}
 use Rattle.word.specs.declared.Span.{Span}
-use Rattle.word.specs.declared.SpanFound.{SpanFound}
-use Rattle.word.specs.declared.SpanFound.TheVariants as span_found
 use Rattle.word.specs.declared.WordEntry.{WordEntry}
-use Rattle.word.specs.declared.WordFound.{WordFound}
-use Rattle.word.specs.declared.WordFound.TheVariants as word_found
+use Rattle.std.specs.Prelude.{Err, Ok, Result}
+use Rattle.paper.specs.declared.Refusal.{Refusal}
 
 -- the part, where it ends inside a table of so many bytes
 unfoldable pub within : ℕ → Span → Looked Span
@@ -59,13 +57,12 @@ word_details_in offsets details count k = numbered offset_size count k offsets (
 
 -- ---- the case of the enum for each answer, and what the part holds: "empty where the lookup refuses"
 
-abbrev pub found : Looked Span → SpanFound
-found (gives s) = span_found.At s
-found (refuses n) = span_found.Refused (record { number = n; place = 0 })
+abbrev pub found : {A : Type 0} → Looked A → Result A Refusal
+found (gives s) = Ok s
+found (refuses n) = Err (record { number = n; place = 0 })
 
-abbrev pub entry : Looked WordEntry → WordFound
-entry (gives e) = word_found.Entry e
-entry (refuses n) = word_found.Refused (record { number = n; place = 0 })
+abbrev pub entry : Looked WordEntry → Result WordEntry Refusal
+entry a = found a
 
 abbrev pub held : List ℕ → Looked Span → List ℕ
 held table (gives s) = take s.len (drop s.start table)

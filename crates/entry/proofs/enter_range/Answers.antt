@@ -2,6 +2,7 @@
 -- Assumes nothing.
 use native.Mathlib.Omega.{arith}
 use lib.ListN.{take, drop}
+use Rattle.std.proofs.lemmas.Result.{err_from_is_err_and}
 use Rattle.entry.specs.Steps.{words_of}
 use Rattle.entry.proofs.Entered.{line_ranges_full, line_references_full, line_no_name, line_range}
 use Rattle.entry.proofs.enter_range.Goals as goal
@@ -21,8 +22,15 @@ overflow_cast-first c = let f = c.requires.working.held.references_few in omega 
 pub append_range-requires : goal.append_range-requires
 append_range-requires c = let f = c.requires.working.ranges_long in let i = c.if-n-ge-MAX_RANGES.false in omega arith
 
-pub returns-in-NoName : goal.returns-in-NoName
-returns-in-NoName c r z = let a = c.args in let ws = words_of (drop a.line.names.start (take a.line.names.end a.text.now)) in let e = c.count_words-words.ensures in let f = z.references_few in let i = c.if-first-words.false in line_no_name z a.line.lower a.line.upper ws (omega arith) (omega arith) (c.in-NoName.k) ((rw (c.in-NoName.is) at (c.enter_names.ensures)) r.names z.names)
+pub returns-in_err-named : goal.returns-in_err-named
+returns-in_err-named c =
+    let a = c.args in
+    let ws = words_of (drop a.line.names.start (take a.line.names.end a.text.now)) in
+    let e = c.count_words-words.ensures in
+    let i = c.if-first-words.false in
+    let p = err_from_is_err_and c.from_residual.result c.from_residual.ensures.1 in
+    rw (p.1, p.2)
+    (λ r z. let f = z.references_few in line_no_name z a.line.lower a.line.upper ws (omega arith) (omega arith) _ (c.in_err-named.ensures r.names z.names))
 
-pub returns-in-Done : goal.returns-in-Done
-returns-in-Done c r z = let a = c.args in let ws = words_of (drop a.line.names.start (take a.line.names.end a.text.now)) in let e = c.count_words-words.ensures in let f = z.references_few in let i = c.if-first-words.false in line_range z a.line.lower a.line.upper ws (omega arith) (omega arith) _ _ _ _ (c.in-Done.d) ((rw (c.in-Done.is) at (c.enter_names.ensures)) r.names z.names) (c.count_words-words.result) (c.count_words-words.ensures) (c.append_range.ensures)
+pub returns : goal.returns
+returns c r z = let a = c.args in let ws = words_of (drop a.line.names.start (take a.line.names.end a.text.now)) in let e = c.count_words-words.ensures in let f = z.references_few in let i = c.if-first-words.false in line_range z a.line.lower a.line.upper ws (omega arith) (omega arith) _ _ _ _ (c.in_ok-named.named) (c.in_ok-named.ensures r.names z.names) (c.count_words-words.result) (c.count_words-words.ensures) (c.append_range.ensures)

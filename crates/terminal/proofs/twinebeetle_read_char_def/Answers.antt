@@ -5,7 +5,7 @@ use Rattle.terminal.proofs.Whole.{exports, short_counts}
 use Rattle.terminal.proofs.twinebeetle_read_char_def.Goals as goal
 
 pub returns-then-counts-lt-COUNTS_SIZE : goal.returns-then-counts-lt-COUNTS_SIZE
-returns-then-counts-lt-COUNTS_SIZE c = short_counts _ _ _ (omega arith)
+returns-then-counts-lt-COUNTS_SIZE c = rw c.from.ensures (short_counts _ _ _ (omega arith))
 
 pub give-requires : goal.give-requires
 give-requires c = record { counts_size_in_bounds = omega arith; exportable = outcome_fits _ (text_small _) _ _ _ (c.parse-outcome.ensures) }

@@ -5,7 +5,7 @@ use Rattle.terminal_unk.proofs.Whole.{exports, short_counts}
 use Rattle.terminal_unk.proofs.twinebeetle_read_unk.Goals as goal
 
 pub returns-then-unk_counts-lt-UNK_COUNTS_SIZE : goal.returns-then-unk_counts-lt-UNK_COUNTS_SIZE
-returns-then-unk_counts-lt-UNK_COUNTS_SIZE c = short_counts _ _ _ _ _ (omega arith)
+returns-then-unk_counts-lt-UNK_COUNTS_SIZE c = rw c.from.ensures (short_counts _ _ _ _ _ (omega arith))
 
 pub give-requires : goal.give-requires
 give-requires c = record { unk_counts_size_in_bounds = omega arith; exportable = outcome_fits _ _ _ _ _ _ c.parse_unk-outcome.ensures }

@@ -1,13 +1,12 @@
--- `word::locate_details` meets its contract: 15, then 26, then what stands at the offset. Assumes nothing.
-use native.Mathlib.Omega.{arith}
-use Rattle.word.proofs.Words.{details_unknown, offset_past, details_there}
+-- `word::locate_details` meets its contract: the entry's offset, then the part that stands behind the length there. Assumes nothing.
+use Rattle.std.proofs.lemmas.Result.{err_from_is_err_and}
+use Rattle.word.proofs.Words.{details_refused, details_located}
 use Rattle.word.proofs.locate_details.Goals as goal
 
-pub returns-then-count-id : goal.returns-then-count-id
-returns-then-count-id c = details_unknown _ _ _ _ (omega arith)
-
-pub returns-then-offsets-id : goal.returns-then-offsets-id
-returns-then-offsets-id c = offset_past _ _ _ _ (omega arith) (omega arith)
+pub returns-in_err-at : goal.returns-in_err-at
+returns-in_err-at c =
+    let p = err_from_is_err_and c.from_residual.result c.from_residual.ensures.1 in
+    rw (p.1, p.2) (details_refused _ _ _ _ _ c.in_err-at.ensures)
 
 pub returns : goal.returns
-returns c = details_there _ _ _ _ (omega arith) (omega arith) _ (c.get_u32.ensures) (c.details_at.ensures)
+returns c = details_located _ _ _ _ c.in_ok-at.ensures _ _ c.get_u32-offset.ensures c.get_u32-len.ensures c.span_within.ensures

@@ -1,16 +1,17 @@
--- `word::locate_word_ids` meets its contract: 15, then the two ways to 26, then the part. Assumes nothing.
+-- `word::locate_word_ids` meets its contract: the category's entry, then the part that it says. Assumes nothing.
 use native.Mathlib.Omega.{arith}
-use Rattle.word.proofs.Words.{ids_unknown, ids_entry_past, ids_past, ids_there}
+use mathlib.Core.Path.{◌∙◌}
+use Rattle.std.proofs.lemmas.Result.{err_from_is_err_and}
+use Rattle.word.proofs.Words.{an_entry, ids_refused, ids_located}
 use Rattle.word.proofs.locate_word_ids.Goals as goal
 
-pub returns-then-count-id : goal.returns-then-count-id
-returns-then-count-id c = ids_unknown _ _ _ _ (omega arith)
+pub returns-in_err-at : goal.returns-in_err-at
+returns-in_err-at c =
+    let p = err_from_is_err_and c.from_residual.result c.from_residual.ensures.1 in
+    rw (p.1, p.2) (ids_refused _ _ _ _ _ c.in_err-at.ensures)
 
-pub returns-then-places-id : goal.returns-then-places-id
-returns-then-places-id c = ids_entry_past _ _ _ _ (omega arith) (omega arith)
-
-pub returns-then-members-start : goal.returns-then-members-start
-returns-then-members-start c = ids_past _ _ _ _ (omega arith) (omega arith) _ _ (c.get_u16-first.ensures) (c.get_u16-size.ensures) (omega arith)
+pub overflow_add-at : goal.overflow_add-at
+overflow_add-at c = let h = an_entry _ _ _ c.args.places.now _ c.in_ok-at.ensures in omega arith
 
 pub returns : goal.returns
-returns c = ids_there _ _ _ _ (omega arith) (omega arith) _ _ (c.get_u16-first.ensures) (c.get_u16-size.ensures) (omega arith)
+returns c = let h = c.from-first.ensures in ids_located _ _ _ _ c.in_ok-at.ensures _ _ (c.from-first.ensures ∙ c.get_u16.ensures) (c.from-size.ensures ∙ c.get_u16-2.ensures) c.span_within.ensures

@@ -1,2 +1,0 @@
--- What the functions of `fill` promise: the tables of a text.
-pub mod Filled
