@@ -1,150 +1,46 @@
 // What each command writes of a dictionary.
 #![tactic(auto)]
 
-use command::Asked;
-use paper::Counts;
-use say::{ErrorStream, Report};
+use command::{Asked, Command};
+use hold::Reading;
+use say::{ErrorStream, Stop};
 use std::env::Env;
 use std::fs::Files;
-use std::io::{Input, Print};
+use std::io;
+use std::io::{Input, Write};
 
-// The tables in lines, but for `at`, which asks for code points alone.
-fn put_tables(
-    rt: &impl Print,
+fn put_counts(
+    rt: &impl Env,
+    out: &mut impl Write,
     asked: Asked,
-    out: &mut [u8],
-    names: &[u8],
-    categories: &[u8],
-    definitions: &[u8],
-    ranges: &[u8],
-    references: &[u8],
-    c: Counts,
-) -> Report {
-    let r = Report::new();
-    if asked.command == command::AT {
-        return r;
-    }
-    let one = show::show_categories(rt, r, out, names, categories, c.categories);
-    let two = show::show_definitions(rt, one, out, definitions, c.definitions);
-    show::show_ranges(rt, two, out, ranges, references, c.ranges)
+    reading: &Reading,
+) -> io::Result<()> {
+    say::put_argument(rt, out, asked.first)?;
+    show::put_counts(out, reading.counts)
 }
 
-// The dictionary in lines: its tables, and what its rows give.
-fn describe<'a, R: Env + Print>(
-    rt: &R,
-    asked: Asked,
-    out: &mut [u8],
-    names: &'a [u8],
-    categories: &'a [u8],
-    definitions: &'a [u8],
-    ranges: &'a [u8],
-    references: &'a [u8],
-    c: Counts,
-) -> Report {
-    let r = put_tables(
-        rt,
-        asked,
-        out,
-        names,
-        categories,
-        definitions,
-        ranges,
-        references,
-        c,
-    );
-    by_row::put_rows(
-        rt,
-        asked,
-        r,
-        out,
-        names,
-        categories,
-        definitions,
-        ranges,
-        references,
-        c,
-    )
-}
-
-fn answer_in_lines<'a, R: Env + ErrorStream + Files + Input + Print>(
-    rt: &R,
-    asked: Asked,
-    out: &mut [u8],
-    names: &'a [u8],
-    categories: &'a [u8],
-    definitions: &'a [u8],
-    ranges: &'a [u8],
-    references: &'a [u8],
-    c: Counts,
-) -> Report {
-    let command = asked.command;
-    match command {
-        command::UNK => show_unk::put_unk(
-            rt,
-            asked,
-            out,
-            names,
-            categories,
-            definitions,
-            ranges,
-            references,
-            c,
-        ),
-        _ => describe(
-            rt,
-            asked,
-            out,
-            names,
-            categories,
-            definitions,
-            ranges,
-            references,
-            c,
-        ),
-    }
+fn put_tables(out: &mut impl Write, reading: &Reading) -> io::Result<()> {
+    show::show_categories(out, reading)?;
+    show::show_definitions(out, reading)?;
+    show::show_ranges(out, reading)
 }
 
 // What a command asks of a dictionary that a reader accepted.
-pub fn answer<'a, R: Env + ErrorStream + Files + Input + Print>(
+pub fn answer<R: Env + ErrorStream + Files + Input>(
     rt: &R,
+    out: &mut impl Write,
     asked: Asked,
-    out: &mut [u8],
-    names: &'a [u8],
-    categories: &'a [u8],
-    definitions: &'a [u8],
-    ranges: &'a [u8],
-    references: &'a [u8],
-    c: Counts,
-) -> Report {
-    let command = asked.command;
-    match command {
-        command::CHECK => show::put_counts(
-            rt,
-            Report::new().argument(rt, out, asked.first),
-            out,
-            c,
-        ),
-        command::PACK => save::save_pack(
-            rt,
-            asked,
-            out,
-            names,
-            categories,
-            definitions,
-            ranges,
-            references,
-            c,
-        ),
-        _ => answer_in_lines(
-            rt,
-            asked,
-            out,
-            names,
-            categories,
-            definitions,
-            ranges,
-            references,
-            c,
-        ),
+    reading: &Reading,
+) -> Result<(), Stop> {
+    match asked.command {
+        Command::Check => Ok(put_counts(rt, out, asked, reading)?),
+        Command::Show | Command::Unpack => {
+            put_tables(out, reading)?;
+            by_row::put_rows(rt, out, asked, reading)
+        }
+        Command::At => by_row::put_rows(rt, out, asked, reading),
+        Command::Pack => save::save_pack(rt, out, asked, reading),
+        Command::Unk => show_unk::put_unk(rt, out, asked, reading),
+        Command::Help => Ok(command::help(out)?),
     }
 }

@@ -1,16 +1,19 @@
 // Files that arguments name. What cannot be read or written is said in one sentence on standard error.
 #![tactic(auto)]
 
-ghost use Rattle.std.specs.Prelude.{◌≡◌, ◌≤◌, length, take};
+ghost use Rattle.std.specs.Prelude.{◌≤◌, IfOk, length};
 
-use say::ErrorStream;
+use say::{ErrorStream, Stop};
 use std::env::{Env, FillError};
 use std::fs::{File, Files, OpenFile};
 use std::io;
 use std::io::{Input, Read, Write};
 
+// For a file, standard input.
+const DASH: &[u8] = b"-";
+
 // What is said of a path that cannot be one.
-const NO_PATH: [u8; 19] = *b"a file by this name";
+const NO_PATH: &[u8] = b"a file by this name";
 
 // The system's numbers for an argument that is missing, a name that is too long, and one that is no text, as std wants it.
 const MISSING: i32 = 22;
@@ -19,111 +22,75 @@ const TOO_LONG: i32 = 36;
 
 const NO_TEXT: i32 = 84;
 
-// What came of reading a file: how many bytes, or nothing, and that was said.
-#[derive(Drop)]
-pub enum FileRead {
-    Bytes(usize),
-    Failed,
-}
-
-// A count of bytes as what it can be at most, the room's length.
-pub fn least(room: &[u8], n: usize) -> usize
-    ensures within { result ≤ length room.now }
-    ensures front { result ≡ length (take result room.now) }
-{
-    if room.len() < n {
-        return room.len();
-    }
-    n
-}
-
-fn is_dash(path: &[u8]) -> bool {
-    if path.len() != 1 {
-        return false;
-    }
-    path[0] == b'-'
+// Why there is no path.
+fn no_path(error: FillError) -> io::Error {
+    io::Error::from_raw_os_error(match error {
+        FillError::NotPresent => MISSING,
+        FillError::TooLong => TOO_LONG,
+    })
 }
 
 fn path_text(path: &[u8]) -> io::Result<&str> {
-    match str::from_utf8(path) {
-        Ok(text) => Ok(text),
-        Err(_) => Err(io::Error::from_raw_os_error(NO_TEXT)),
-    }
+    str::from_utf8(path).map_err(|_| io::Error::from_raw_os_error(NO_TEXT))
 }
 
-// Why there is no path.
-fn no_path(error: FillError) -> io::Error {
-    match error {
-        FillError::NotPresent => io::Error::from_raw_os_error(MISSING),
-        FillError::TooLong => io::Error::from_raw_os_error(TOO_LONG),
-    }
-}
-
-// One read into the room behind its first n bytes.
-fn read_behind(from: &mut impl Read, room: &mut [u8], n: usize) -> io::Result<usize> {
-    if room.len() < n {
-        return Ok(0);
-    }
-    from.read(&mut room[n..])
-}
-
-// Reads until the file ends or the room is full.
-fn read_all(from: &mut impl Read, room: &mut [u8]) -> io::Result<usize> {
+// Reads until the file ends or the room is full: a cursor that moves by what each read gives, so no `for`.
+fn read_all(from: &mut impl Read, room: &mut [u8]) -> io::Result<usize>
+    ensures { IfOk result (λ n. n ≤ length room.new) }
+{
     let mut n = 0;
     while n < room.len() {
-        let more = read_behind(from, room, n)?;
+        let more = from.read(&mut room[n..])?;
         if more == 0 {
-            return Ok(n);
-        }
-        if room.len() - n <= more {
-            return Ok(room.len());
+            break;
         }
         n += more;
     }
     Ok(n)
 }
 
-fn open_and_read<R: Files + Input>(rt: &R, path: &[u8], room: &mut [u8]) -> io::Result<usize> {
-    if is_dash(path) {
+fn open_and_read<R: Files + Input>(rt: &R, path: &[u8], room: &mut [u8]) -> io::Result<usize>
+    ensures { IfOk result (λ n. n ≤ length room.new) }
+{
+    if path == DASH {
         return read_all(&mut rt.reader(), room);
     }
     read_all(&mut File::open(rt, path_text(path)?)?, room)
 }
 
-fn say_unread(rt: &impl ErrorStream, path: &[u8], error: io::Error) {
-    say::complain(rt, b"twinebeetle: cannot read ");
+fn cannot(rt: &impl ErrorStream, verb: &[u8], path: &[u8], error: io::Error) -> Stop {
+    rt.complain(b"twinebeetle: cannot ");
+    rt.complain(verb);
+    rt.complain(b" ");
     say::fail(rt, path, error);
+    Stop::Refused
 }
 
-fn read_path<R: ErrorStream + Files + Input>(rt: &R, path: &[u8], room: &mut [u8]) -> FileRead {
-    match open_and_read(rt, path, room) {
-        Ok(n) => FileRead::Bytes(n),
-        Err(e) => {
-            say_unread(rt, path, e);
-            FileRead::Failed
-        }
-    }
-}
-
-// The file that argument i names.
-pub fn read_file<R: Env + ErrorStream + Files + Input>(
+// The path that argument i is.
+fn path_at<'a, R: Env + ErrorStream>(
     rt: &R,
     i: usize,
-    room: &mut [u8],
-) -> FileRead {
-    let mut path = say::word();
-    match rt.arg(i, &mut path) {
-        Ok(n) => read_path(rt, &path[..n], room),
-        Err(e) => {
-            say_unread(rt, &NO_PATH, no_path(e));
-            FileRead::Failed
-        }
-    }
+    verb: &[u8],
+    word: &'a mut [u8],
+) -> Result<&'a [u8], Stop> {
+    let n = rt
+        .arg(i, word)
+        .map_err(|e| cannot(rt, verb, NO_PATH, no_path(e)))?;
+    Ok(&word[..n])
 }
 
-fn say_unwritten(rt: &impl ErrorStream, path: &[u8], error: io::Error) {
-    say::complain(rt, b"twinebeetle: cannot write ");
-    say::fail(rt, path, error);
+// The bytes of the file that argument i names, at the start of the room, and no more than fit.
+pub fn read_file<'a, R: Env + ErrorStream + Files + Input>(
+    rt: &R,
+    i: usize,
+    room: &'a mut [u8],
+) -> Result<&'a [u8], Stop>
+    ensures { IfOk result (λ bytes. length bytes.now ≤ length room.old) }
+{
+    let mut word = say::word();
+    let path = path_at(rt, i, b"read", &mut word)?;
+    let size = open_and_read(rt, path, room).map_err(|e| cannot(rt, b"read", path, e))?;
+    Ok(&room[..size])
 }
 
 // Closing a file says nothing here: what it would have said of the bytes of a regular file is asked before.
@@ -139,24 +106,13 @@ fn create_and_write(rt: &impl Files, path: &[u8], bytes: &[u8]) -> io::Result<()
     write_and_keep(&mut File::create(rt, path_text(path)?)?, bytes)
 }
 
-fn write_path<R: ErrorStream + Files>(rt: &R, path: &[u8], bytes: &[u8]) -> bool {
-    match create_and_write(rt, path, bytes) {
-        Ok(()) => true,
-        Err(e) => {
-            say_unwritten(rt, path, e);
-            false
-        }
-    }
-}
-
 // The file that argument i names has these bytes from here on; where it cannot, that is said.
-pub fn write_file<R: Env + ErrorStream + Files>(rt: &R, i: usize, bytes: &[u8]) -> bool {
-    let mut path = say::word();
-    match rt.arg(i, &mut path) {
-        Ok(n) => write_path(rt, &path[..n], bytes),
-        Err(e) => {
-            say_unwritten(rt, &NO_PATH, no_path(e));
-            false
-        }
-    }
+pub fn write_file<R: Env + ErrorStream + Files>(
+    rt: &R,
+    i: usize,
+    bytes: &[u8],
+) -> Result<(), Stop> {
+    let mut word = say::word();
+    let path = path_at(rt, i, b"write", &mut word)?;
+    create_and_write(rt, path, bytes).map_err(|e| cannot(rt, b"write", path, e))
 }

@@ -2,62 +2,39 @@
 #![tactic(auto)]
 
 use command::Asked;
-use packer::Written;
-use paper::Counts;
-use say::{ErrorStream, Report};
+use hold::Reading;
+use say::{ErrorStream, Stop};
 use std::env::Env;
 use std::fs::Files;
-use std::io::Print;
+use std::io::Write;
 
 // Behind - it goes to standard output, and nothing is said.
-fn put_pack<R: Env + ErrorStream + Files + Print>(
+fn put_pack<R: Env + ErrorStream + Files>(
     rt: &R,
+    out: &mut impl Write,
     asked: Asked,
-    out: &mut [u8],
     pack: &[u8],
-) -> Report {
-    let to = std::num::wrapping_add_usize(asked.first, 1);
-    let r = Report::new();
+) -> Result<(), Stop> {
+    let to = asked.second();
     if command::is_argument(rt, to, b"-") {
-        return r.bytes(rt, out, pack);
+        return Ok(out.write_all(pack)?);
     }
-    if !file::write_file(rt, to, pack) {
-        return r.refuse();
-    }
-    r.argument(rt, out, to)
-        .bytes(rt, out, b": packed: ")
-        .decimal(rt, out, pack.len() as u64)
-        .bytes(rt, out, b" bytes\n")
+    file::write_file(rt, to, pack)?;
+    say::put_argument(rt, out, to)?;
+    writeln!(out, ": packed: {} bytes", pack.len())?;
+    Ok(())
 }
 
 // Room for every pack: 22 is never given.
-pub fn save_pack<'a, R: Env + ErrorStream + Files + Print>(
+pub fn save_pack<R: Env + ErrorStream + Files>(
     rt: &R,
+    out: &mut impl Write,
     asked: Asked,
-    out: &mut [u8],
-    names: &'a [u8],
-    categories: &'a [u8],
-    definitions: &'a [u8],
-    ranges: &'a [u8],
-    references: &'a [u8],
-    c: Counts,
-) -> Report {
+    reading: &Reading,
+) -> Result<(), Stop> {
     let mut pack = [0u8; paper::MAX_PACK_BYTES];
-    match packer::write_pack(
-        names,
-        categories,
-        definitions,
-        ranges,
-        references,
-        c,
-        &mut pack,
-    ) {
-        Written::Refused(x) => {
-            refusal::put_refusal(rt, Report::new(), out, asked.first, &names[0..0], x)
-        }
-        Written::Length(n) => {
-            let size = file::least(&pack, n);
-            put_pack(rt, asked, out, &pack[..size])
-        }
+    match packer::write_pack(reading, &mut pack) {
+        Err(x) => refusal::put_refusal(rt, out, asked.first, b"", x),
+        Ok(n) => put_pack(rt, out, asked, &pack[..n.min(paper::MAX_PACK_BYTES)]),
     }
 }

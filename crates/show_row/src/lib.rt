@@ -1,181 +1,108 @@
 // Rows in lines: each boundary with its category numbers, or a code point with their names.
 #![tactic(auto)]
 
+use hold::Reading;
 use lookup::Located;
-use say::Report;
+use packed::Span;
+use say::Stop;
 use std::env::Env;
-use std::io::Print;
+use std::io;
+use std::io::Write;
 
-// A part of the pool; nothing where it runs past.
-fn part<'a>(pool: &'a [u16], start: usize, len: usize) -> &'a [u16] {
-    if pool.len() < start {
-        return &pool[0..0];
-    }
-    if pool.len() - start < len {
-        return &pool[0..0];
-    }
-    let end = start + len;
-    &pool[start..end]
+// A dictionary's rows: where each begins, and its categories' place in the pool.
+#[derive(Clone, Copy)]
+pub struct Rows<'a> {
+    pub boundaries: &'a [u32],
+    pub starts: &'a [u32],
+    pub lengths: &'a [u16],
+    pub pool: &'a [u16],
 }
 
-// An entry as a number to reckon with: the call asks only that the entry is there.
-fn wide16(x: u16) -> usize {
-    x as usize
-}
-
-fn wide32(x: u32) -> usize {
-    x as usize
-}
-
-fn start_at(starts: &[u32], i: usize) -> usize {
-    if i < starts.len() {
-        return wide32(starts[i]);
+impl<'a> Rows<'a> {
+    // A part of the pool; nothing where it runs past.
+    fn part(self, start: usize, len: usize) -> &'a [u16] {
+        self.pool
+            .get(start..start.saturating_add(len))
+            .unwrap_or(&[])
     }
-    0
-}
-
-fn length_at(lengths: &[u16], i: usize) -> usize {
-    if i < lengths.len() {
-        return wide16(lengths[i]);
-    }
-    0
 }
 
 // ---- boundaries
 
-fn put_numbers(rt: &impl Print, r: Report, room: &mut [u8], row: &[u16]) -> Report {
-    let mut next = r;
-    let mut i = 0;
-    while i < row.len() {
-        next = next
-            .byte(rt, room, b' ')
-            .decimal(rt, room, wide16(row[i]) as u64);
-        i += 1;
+fn put_row(out: &mut impl Write, boundary: u32, row: &[u16]) -> io::Result<()> {
+    write!(out, "row {boundary:04X}")?;
+    for id in row {
+        write!(out, " {id}")?;
     }
-    next
+    writeln!(out)
 }
 
-fn put_row(
-    rt: &impl Print,
-    r: Report,
-    room: &mut [u8],
-    boundary: u32,
-    pool: &[u16],
-    start: usize,
-    len: usize,
-) -> Report {
-    let headed = r.bytes(rt, room, b"row ").code(rt, room, boundary);
-    put_numbers(rt, headed, room, part(pool, start, len)).byte(rt, room, b'\n')
-}
-
-pub fn show_rows(
-    rt: &impl Print,
-    r: Report,
-    room: &mut [u8],
-    boundaries: &[u32],
-    starts: &[u32],
-    lengths: &[u16],
-    pool: &[u16],
-) -> Report {
-    let mut next = r;
-    let mut i = 0;
-    while i < boundaries.len() {
-        let start = start_at(starts, i);
-        let len = length_at(lengths, i);
-        next = put_row(rt, next, room, boundaries[i], pool, start, len);
-        i += 1;
+pub fn show_rows(out: &mut impl Write, rows: Rows) -> io::Result<()> {
+    for (i, boundary) in rows.boundaries.iter().enumerate() {
+        let start = rows.starts.get(i).copied().unwrap_or(0);
+        let len = rows.lengths.get(i).copied().unwrap_or(0);
+        // std has no conversion from u32 to usize but `as`.
+        put_row(out, *boundary, rows.part(start as usize, usize::from(len)))?;
     }
-    next
+    Ok(())
 }
 
 // ---- code points
 
-fn put_names(
-    rt: &impl Print,
-    r: Report,
-    room: &mut [u8],
-    names: &[u8],
-    categories: &[u8],
-    row: &[u16],
-) -> Report {
-    let mut next = r;
-    let mut i = 0;
-    while i < row.len() {
-        let spaced = next.byte(rt, room, b' ');
-        next = show::put_name(rt, spaced, room, names, categories, wide16(row[i]));
-        i += 1;
+fn put_code(out: &mut impl Write, reading: &Reading, code: u32, row: &[u16]) -> io::Result<()> {
+    write!(out, "U+{code:04X}")?;
+    if row.is_empty() {
+        return writeln!(out, " -");
     }
-    next
+    for id in row {
+        write!(out, " ")?;
+        show::put_name(out, reading, usize::from(*id))?;
+    }
+    writeln!(out)
 }
 
-fn put_code(
-    rt: &impl Print,
-    r: Report,
-    room: &mut [u8],
-    code: u32,
-    names: &[u8],
-    categories: &[u8],
-    row: &[u16],
-) -> Report {
-    let headed = r.bytes(rt, room, b"U+").code(rt, room, code);
-    if row.len() == 0 {
-        return headed.bytes(rt, room, b" -\n");
-    }
-    put_names(rt, headed, room, names, categories, row).byte(rt, room, b'\n')
-}
-
-// The code point that argument i says, looked up by rows.
-fn put_code_at<R: Env + Print>(
-    rt: &R,
-    r: Report,
-    room: &mut [u8],
+// A code point that argument i says, looked up by rows.
+fn put_code_at(
+    rt: &impl Env,
+    out: &mut impl Write,
     i: usize,
-    names: &[u8],
-    categories: &[u8],
-    boundaries: &[u32],
-    starts: &[u32],
-    lengths: &[u16],
-    pool: &[u16],
-) -> Report {
-    let code = code::code_at(rt, i);
-    let no_index = &boundaries[0..0];
-    let no_pool = &pool[0..0];
-    match lookup::locate_categories(no_index, no_pool, boundaries, starts, lengths, pool, code) {
-        Located::Refused(x) => refusal::put_refusal(rt, r, room, i, &names[0..0], x),
-        Located::InFlat(_) => r,
-        Located::InRows(s) => put_code(
-            rt,
-            r,
-            room,
-            code,
-            names,
-            categories,
-            part(pool, s.start, s.len),
-        ),
+    code: u32,
+    reading: &Reading,
+    rows: Rows,
+) -> Result<(), Stop> {
+    let Rows {
+        boundaries,
+        starts,
+        lengths,
+        pool,
+    } = rows;
+    match lookup::locate_categories(&[], &[], boundaries, starts, lengths, pool, code) {
+        Err(x) => refusal::put_refusal(rt, out, i, b"", x),
+        Ok(Located::InFlat(_)) => Ok(()),
+        Ok(Located::InRows(Span { start, len })) => {
+            Ok(put_code(out, reading, code, rows.part(start, len))?)
+        }
     }
 }
 
-// The arguments from the first up to the end are codes.
-pub fn show_codes<R: Env + Print>(
-    rt: &R,
-    r: Report,
-    room: &mut [u8],
+// The arguments from the first up to the end are codes. One that is refused does not keep those behind it from being answered.
+pub fn show_codes(
+    rt: &impl Env,
+    out: &mut impl Write,
     first: usize,
     end: usize,
-    names: &[u8],
-    categories: &[u8],
-    boundaries: &[u32],
-    starts: &[u32],
-    lengths: &[u16],
-    pool: &[u16],
-) -> Report {
-    let mut next = r;
-    let mut i = first;
-    while i < end {
-        next = put_code_at(
-            rt, next, room, i, names, categories, boundaries, starts, lengths, pool,
-        );
-        i += 1;
+    reading: &Reading,
+    rows: Rows,
+) -> Result<(), Stop> {
+    let mut all = Ok(());
+    for i in first..end {
+        if let Some(code) = code::code_at(rt, i) {
+            match put_code_at(rt, out, i, code, reading, rows) {
+                Ok(()) => {}
+                Err(Stop::Refused) => all = Err(Stop::Refused),
+                Err(lost) => return Err(lost),
+            }
+        }
     }
-    next
+    all
 }
