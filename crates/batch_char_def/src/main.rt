@@ -3,10 +3,11 @@
 // document 01 says. Rooms are filled before the reader is called, and lent with bytes behind their sizes.
 #![tactic(auto)]
 
-use batch::{FAULT, FILL, GUARD, Record, TEXT_ROOM, few, is_kept, put_part, put_u16};
-use paper::{Counts, Outcome};
+use batch::{FAULT, FILL, GUARD, TEXT_ROOM, Used, few, put_u16};
+use paper::{Counts, Refusal};
 use std::io;
 use std::io::{Read, Write};
+use table::{CATEGORY_BYTES, DEFINITION_BYTES, RANGE_BYTES, REFERENCE_BYTES};
 
 const NAMES: usize = 16384 + GUARD;
 
@@ -18,64 +19,23 @@ const RANGES: usize = 16384 + GUARD;
 
 const REFERENCES: usize = 16384 + GUARD;
 
-// How many bytes of each table are used, and what stands behind them up to the size.
-#[derive(Clone, Copy)]
-pub struct Used {
-    pub names: usize,
-    pub categories: usize,
-    pub definitions: usize,
-    pub ranges: usize,
-    pub references: usize,
-    pub rest: u8,
-}
+// Refusals below it leave lent memory alone.
+const FIRST_ZERO: u32 = 4;
 
-// ---- memory
+// What a refusal leaves in the tables.
+const NOTHING: Counts = Counts {
+    categories: 0,
+    definitions: 0,
+    ranges: 0,
+    references: 0,
+    bytes: 0,
+};
 
-// 0 where every room is as it should be, else the number of the first that is not, from 1.
-fn fault(
-    u: Used,
-    names: &[u8],
-    categories: &[u8],
-    definitions: &[u8],
-    ranges: &[u8],
-    references: &[u8],
-) -> u64 {
-    if !is_kept(names, u.names, u.rest) {
-        return 1;
-    }
-    if !is_kept(categories, u.categories, u.rest) {
-        return 2;
-    }
-    if !is_kept(definitions, u.definitions, u.rest) {
-        return 3;
-    }
-    if !is_kept(ranges, u.ranges, u.rest) {
-        return 4;
-    }
-    if !is_kept(references, u.references, u.rest) {
-        return 5;
-    }
-    0
-}
-
-fn used_by(answer: &Outcome) -> Used {
+// What stands behind the used parts up to the sizes.
+fn rest_after(answer: &Result<Counts, Refusal>) -> u8 {
     match answer {
-        Outcome::Accepted(c) => Used {
-            names: c.bytes,
-            categories: few(c.categories) * 4,
-            definitions: few(c.definitions) * 6,
-            ranges: few(c.ranges) * 8,
-            references: few(c.references) * 2,
-            rest: 0,
-        },
-        Outcome::Refused(r) => Used {
-            names: 0,
-            categories: 0,
-            definitions: 0,
-            ranges: 0,
-            references: 0,
-            rest: if r.number < 4 { FILL } else { 0 },
-        },
+        Err(r) if r.number < FIRST_ZERO => FILL,
+        _ => 0,
     }
 }
 
@@ -92,50 +52,22 @@ fn put_counts<W: Write>(out: &mut W, c: Counts) -> io::Result<()> {
 
 fn put_answer<W: Write>(
     out: &mut W,
-    answer: Outcome,
-    names: &[u8],
-    categories: &[u8],
-    definitions: &[u8],
-    ranges: &[u8],
-    references: &[u8],
+    answer: Result<Counts, Refusal>,
+    tables: &[Used],
 ) -> io::Result<()> {
-    let u = used_by(&answer);
-    let wrong = fault(u, names, categories, definitions, ranges, references);
-    if wrong != 0 {
-        return batch::put_head(out, FAULT, wrong - 1);
+    if let Some(i) = batch::fault(tables, rest_after(&answer)) {
+        return batch::put_head(out, FAULT, i as u64);
     }
     match answer {
-        Outcome::Refused(r) => { batch::put_head(out, r.number as u64, r.place as u64) }
-        Outcome::Accepted(c) => {
+        Err(r) => batch::put_head(out, u64::from(r.number), r.place as u64),
+        Ok(c) => {
             put_counts(out, c)?;
-            put_part(out, names, u.names)?;
-            put_part(out, categories, u.categories)?;
-            put_part(out, definitions, u.definitions)?;
-            put_part(out, ranges, u.ranges)?;
-            put_part(out, references, u.references)
+            for t in tables {
+                batch::put_part(out, t.room, t.len)?;
+            }
+            Ok(())
         }
     }
-}
-
-fn answer<W: Write>(
-    out: &mut W,
-    text: &[u8],
-    names: &mut [u8],
-    categories: &mut [u8],
-    definitions: &mut [u8],
-    ranges: &mut [u8],
-    references: &mut [u8],
-) -> io::Result<()> {
-    let found = char_def::parse(text, names, categories, definitions, ranges, references);
-    put_answer(
-        out,
-        found,
-        names,
-        categories,
-        definitions,
-        ranges,
-        references,
-    )
 }
 
 fn answer_one<W: Write>(out: &mut W, text: &[u8]) -> io::Result<()> {
@@ -144,35 +76,55 @@ fn answer_one<W: Write>(out: &mut W, text: &[u8]) -> io::Result<()> {
     let mut definitions = [FILL; DEFINITIONS];
     let mut ranges = [FILL; RANGES];
     let mut references = [FILL; REFERENCES];
-    answer(
-        out,
+    let answer = char_def::parse(
         text,
         &mut names,
         &mut categories,
         &mut definitions,
         &mut ranges,
         &mut references,
-    )
+    );
+    let n = answer.unwrap_or(NOTHING);
+    let tables = [
+        Used {
+            room: &names,
+            len: n.bytes,
+        },
+        Used {
+            room: &categories,
+            len: few(n.categories) * CATEGORY_BYTES,
+        },
+        Used {
+            room: &definitions,
+            len: few(n.definitions) * DEFINITION_BYTES,
+        },
+        Used {
+            room: &ranges,
+            len: few(n.ranges) * RANGE_BYTES,
+        },
+        Used {
+            room: &references,
+            len: few(n.references) * REFERENCE_BYTES,
+        },
+    ];
+    put_answer(out, answer, &tables)
 }
 
 // ---- records
 
 fn next_answer<R: Read, W: Write>(from: &mut R, out: &mut W, room: &mut [u8]) -> io::Result<bool> {
-    match batch::next_record(from, room)? {
-        Record::End => Ok(false),
-        Record::Text(size) => {
-            let n = batch::least(room, size);
-            answer_one(out, &room[..n])?;
-            Ok(true)
-        }
-    }
+    let Some(text) = batch::next_record(from, room)? else {
+        return Ok(false);
+    };
+    answer_one(out, text)?;
+    Ok(true)
 }
 
 // Nothing says that input ends, so the loop has a number of turns that no run uses up.
 fn answer_all<R: Read, W: Write>(from: &mut R, out: &mut W, room: &mut [u8]) -> io::Result<()> {
     for _ in 0..u64::MAX {
         if !next_answer(from, out, room)? {
-            return out.flush();
+            break;
         }
     }
     out.flush()

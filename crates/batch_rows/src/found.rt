@@ -1,7 +1,7 @@
 // What is found at a code point: by the flat table, its packed entry, and by the rows alone.
-use crate::writer::{add_u8, add_u16, add_u16s, add_u32};
+use crate::tables::Tables;
+use crate::writer::Page;
 use lookup::Located;
-use packed::PackedFound;
 use std::io;
 use std::io::Write;
 
@@ -17,125 +17,42 @@ const PRESENT: u8 = 1;
 
 const ABSENT: u8 = 2;
 
-const U16_SIZE: usize = 65536;
-
-fn byte(number: u32) -> u8 {
+pub fn byte(number: u32) -> u8 {
     (number % 256) as u8
 }
 
-fn add_where<W: Write>(
-    stream: &mut W,
-    out: &mut [u8],
-    at: usize,
-    found: Located,
-) -> io::Result<usize> {
-    match found {
-        Located::InFlat(_) => {
-            let to = add_u8(stream, out, at, IN_FLAT)?;
-            add_u8(stream, out, to, 0)
-        }
-        Located::InRows(_) => {
-            let to = add_u8(stream, out, at, IN_ROWS)?;
-            add_u8(stream, out, to, 0)
-        }
-        Located::Refused(r) => {
-            let to = add_u8(stream, out, at, REFUSED)?;
-            add_u8(stream, out, to, byte(r.number))
-        }
-    }
-}
-
 // Where it is or the refusal, then how many categories, and which.
-fn add_found<'a, W: Write>(
-    stream: &mut W,
-    out: &mut [u8],
-    at: usize,
-    index: &[u32],
-    flat_pool: &'a [u16],
-    boundaries: &[u32],
-    starts: &[u32],
-    lengths: &[u16],
-    pool: &'a [u16],
-    c: u32,
-) -> io::Result<usize> {
-    let found = lookup::locate_categories(index, flat_pool, boundaries, starts, lengths, pool, c);
-    let to = add_where(stream, out, at, found)?;
-    let part = lookup::lookup_categories(index, flat_pool, boundaries, starts, lengths, pool, c);
-    let behind = add_u16(stream, out, to, (part.len() % U16_SIZE) as u16)?;
-    add_u16s(stream, out, behind, part)
+fn add_found<W: Write>(page: &mut Page<W>, t: &Tables, c: u32) -> io::Result<()> {
+    let head = match t.locate(c) {
+        Ok(Located::InFlat(_)) => [IN_FLAT, 0],
+        Ok(Located::InRows(_)) => [IN_ROWS, 0],
+        Err(r) => [REFUSED, byte(r.number)],
+    };
+    page.add(&head)?;
+    let part = t.categories(c);
+    page.add_length(part.len())?;
+    page.add_u16s(part)
 }
 
-fn add_packed<W: Write>(
-    stream: &mut W,
-    out: &mut [u8],
-    at: usize,
-    index: &[u32],
-    c: u32,
-) -> io::Result<usize> {
+fn add_packed<W: Write>(page: &mut Page<W>, index: &[u32], c: u32) -> io::Result<()> {
     match packed::lookup_categories_packed(index, c) {
-        PackedFound::At(p) => {
-            let to = add_u8(stream, out, at, PRESENT)?;
-            let behind = add_u32(stream, out, to, p.offset)?;
-            add_u16(stream, out, behind, p.len)
+        Ok(Some(p)) => {
+            page.add_u8(PRESENT)?;
+            page.add(&p.offset.to_le_bytes())?;
+            page.add(&p.len.to_le_bytes())
         }
-        PackedFound::Absent => add_u8(stream, out, at, ABSENT),
-        PackedFound::Refused(r) => {
-            let to = add_u8(stream, out, at, REFUSED)?;
-            add_u8(stream, out, to, byte(r.number))
-        }
+        Ok(None) => page.add_u8(ABSENT),
+        Err(r) => page.add(&[REFUSED, byte(r.number)]),
     }
 }
 
-fn add_one<'a, W: Write>(
-    stream: &mut W,
-    out: &mut [u8],
-    at: usize,
-    index: &[u32],
-    flat_pool: &'a [u16],
-    boundaries: &[u32],
-    starts: &[u32],
-    lengths: &[u16],
-    pool: &'a [u16],
-    c: u32,
-) -> io::Result<usize> {
-    let to = add_found(
-        stream, out, at, index, flat_pool, boundaries, starts, lengths, pool, c,
-    )?;
-    let behind = add_packed(stream, out, to, index, c)?;
-    add_found(
-        stream,
-        out,
-        behind,
-        &index[..0],
-        &flat_pool[..0],
-        boundaries,
-        starts,
-        lengths,
-        pool,
-        c,
-    )
-}
-
-pub fn add_all<'a, W: Write>(
-    stream: &mut W,
-    codes: &[u8],
-    out: &mut [u8],
-    at: usize,
-    index: &[u32],
-    flat_pool: &'a [u16],
-    boundaries: &[u32],
-    starts: &[u32],
-    lengths: &[u16],
-    pool: &'a [u16],
-) -> io::Result<usize> {
-    let mut to = at;
-    let mut next = 0;
-    while next < codes.len() {
-        let c = table::get_u32(codes, next);
-        to = add_one(
-            stream, out, to, index, flat_pool, boundaries, starts, lengths, pool, c,
-        )?;
-        next += CODE_BYTES;
+pub fn add_all<W: Write>(page: &mut Page<W>, t: &Tables, codes: &[u8]) -> io::Result<()> {
+    let rows = t.without_flat();
+    for code in codes.chunks(CODE_BYTES) {
+        let c = table::get_u32(code, 0);
+        add_found(page, t, c)?;
+        add_packed(page, t.index, c)?;
+        add_found(page, &rows, c)?;
     }
-    Ok(to)
+    Ok(())
 }

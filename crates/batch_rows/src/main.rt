@@ -4,16 +4,17 @@
 #![tactic(auto)]
 
 mod found;
-mod rooms;
 mod tables;
 mod writer;
 
-use batch::{Record, TEXT_ROOM};
-use paper::{Counts, Outcome};
-use rooms::{FILL_U16, FILL_U32, least_u16, least_u32};
+use batch::TEXT_ROOM;
+use hold::Reading;
+use paper::Refusal;
+use row::RowCounts;
 use std::io;
 use std::io::{Read, Write};
-use tables::Tables;
+use tables::{FILL_U16, FILL_U32, Tables, Used};
+use writer::Page;
 
 const NAMES: usize = 16384;
 
@@ -25,10 +26,8 @@ const RANGES: usize = 16384;
 
 const REFERENCES: usize = 16384;
 
-// Bytes of code points, and of an answer before it is written.
+// Bytes of code points.
 const CODE_ROOM: usize = 4096;
-
-const OUT_ROOM: usize = 16384;
 
 // What is lent behind the largest boundary list and index.
 const GUARD: usize = 16;
@@ -40,145 +39,83 @@ const INDEX: usize = 65536 + GUARD;
 // Places of each pool. Rows may need 2,097,664 and the flat table 1,044,735: 17 where they do not fit.
 const PLACES: usize = 131072;
 
+// Memory is not as it should be.
+const FAULT: u8 = 255;
+
 // ---- an answer
 
-// The lookups go over tables as long as they are used.
-fn put_found<'a, W: Write>(
-    stream: &mut W,
-    codes: &[u8],
-    out: &mut [u8],
-    at: usize,
-    t: Tables,
-    boundaries: &[u32],
-    starts: &[u32],
-    lengths: &[u16],
-    pool: &'a [u16],
-    index: &[u32],
-    flat_pool: &'a [u16],
-) -> io::Result<()> {
-    let rows = least_u32(boundaries, t.rows);
-    let firsts = least_u32(starts, t.rows);
-    let sizes = least_u16(lengths, t.rows);
-    let places = least_u16(pool, t.places);
-    let entries = least_u32(index, t.entries);
-    let flat_places = least_u16(flat_pool, t.flat_places);
-    let to = found::add_all(
-        stream,
-        codes,
-        out,
-        at,
-        &index[..entries],
-        &flat_pool[..flat_places],
-        &boundaries[..rows],
-        &starts[..firsts],
-        &lengths[..sizes],
-        &pool[..places],
-    )?;
-    batch::put_part(stream, out, to)
+// The number of a builder's refusal as a byte, or 0: that memory is not as it should be comes before.
+fn verdict(refusal: Option<Refusal>, is_left: bool) -> u8 {
+    if !is_left {
+        return FAULT;
+    }
+    match refusal {
+        Some(r) => found::byte(r.number),
+        None => 0,
+    }
 }
 
-fn put_answer<'a, W: Write>(
+// Boundaries, starts, lengths and the pool behind the counts.
+fn add_rows<W: Write>(page: &mut Page<W>, verdict: u8, n: Used, t: &Tables) -> io::Result<()> {
+    page.add_u8(verdict)?;
+    page.add_count(n.rows)?;
+    page.add_count(n.places)?;
+    page.add_u32s(t.boundaries)?;
+    page.add_u32s(t.starts)?;
+    page.add_u16s(t.lengths)?;
+    page.add_u16s(t.pool)
+}
+
+// The pool behind its count, and the index by its runs.
+fn add_flat<W: Write>(page: &mut Page<W>, verdict: u8, n: Used, t: &Tables) -> io::Result<()> {
+    page.add_u8(verdict)?;
+    page.add_count(n.flat_places)?;
+    page.add_u16s(t.flat_pool)?;
+    page.add_runs(t.index)
+}
+
+// The lookups go over tables as long as they are used.
+fn put_answer<W: Write>(
     stream: &mut W,
     codes: &[u8],
-    out: &mut [u8],
-    t: Tables,
-    boundaries: &[u32],
-    starts: &[u32],
-    lengths: &[u16],
-    pool: &'a [u16],
-    index: &[u32],
-    flat_pool: &'a [u16],
+    lent: &Tables,
+    rows: Result<RowCounts, Refusal>,
+    flat: Result<usize, Refusal>,
 ) -> io::Result<()> {
     batch::put_head(stream, 0, 0)?;
-    let rows_end = tables::add_rows(stream, out, 0, t, boundaries, starts, lengths, pool)?;
-    let at = tables::add_flat(stream, out, rows_end, t, index, flat_pool)?;
-    put_found(
-        stream, codes, out, at, t, boundaries, starts, lengths, pool, index, flat_pool,
-    )
+    let n = tables::used_by(rows, flat);
+    let used = lent.front(n);
+    let mut page = Page::new(stream);
+    add_rows(&mut page, verdict(rows.err(), lent.rows_left(n)), n, &used)?;
+    add_flat(&mut page, verdict(flat.err(), lent.flat_left(n)), n, &used)?;
+    found::add_all(&mut page, &used, codes)?;
+    page.write()
 }
 
-fn build<'a>(
-    counts: Counts,
-    names: &'a [u8],
-    categories: &'a [u8],
-    definitions: &'a [u8],
-    ranges: &'a [u8],
-    references: &'a [u8],
-    boundaries: &mut [u32],
-    starts: &mut [u32],
-    lengths: &mut [u16],
-    pool: &mut [u16],
-    index: &mut [u32],
-    flat_pool: &mut [u16],
-) -> Tables {
-    let rows = row::build_lookup_table(
-        names,
-        categories,
-        definitions,
-        ranges,
-        references,
-        counts,
-        boundaries,
-        starts,
-        lengths,
-        pool,
-    );
-    let flat = flat::build_flat_table(
-        names,
-        categories,
-        definitions,
-        ranges,
-        references,
-        counts,
-        index,
-        flat_pool,
-    );
-    tables::built(rows, flat)
-}
-
-fn answer<'a, W: Write>(
-    stream: &mut W,
-    codes: &[u8],
-    counts: Counts,
-    names: &'a [u8],
-    categories: &'a [u8],
-    definitions: &'a [u8],
-    ranges: &'a [u8],
-    references: &'a [u8],
-) -> io::Result<()> {
+fn answer<W: Write>(stream: &mut W, codes: &[u8], reading: &Reading) -> io::Result<()> {
     let mut boundaries = [FILL_U32; ROWS];
     let mut starts = [FILL_U32; ROWS];
     let mut lengths = [FILL_U16; ROWS];
     let mut pool = [FILL_U16; PLACES];
     let mut index = [FILL_U32; INDEX];
     let mut flat_pool = [FILL_U16; PLACES];
-    let mut out = [0u8; OUT_ROOM];
-    let t = build(
-        counts,
-        names,
-        categories,
-        definitions,
-        ranges,
-        references,
+    let rows = row::build_lookup_table(
+        reading,
         &mut boundaries,
         &mut starts,
         &mut lengths,
         &mut pool,
-        &mut index,
-        &mut flat_pool,
     );
-    put_answer(
-        stream,
-        codes,
-        &mut out,
-        t,
-        &boundaries,
-        &starts,
-        &lengths,
-        &pool,
-        &index,
-        &flat_pool,
-    )
+    let flat = flat::build_flat_table(reading, &mut index, &mut flat_pool);
+    let lent = Tables {
+        boundaries: &boundaries,
+        starts: &starts,
+        lengths: &lengths,
+        pool: &pool,
+        index: &index,
+        flat_pool: &flat_pool,
+    };
+    put_answer(stream, codes, &lent, rows, flat)
 }
 
 fn answer_one<W: Write>(stream: &mut W, text: &[u8], codes: &[u8]) -> io::Result<()> {
@@ -195,39 +132,22 @@ fn answer_one<W: Write>(stream: &mut W, text: &[u8], codes: &[u8]) -> io::Result
         &mut ranges,
         &mut references,
     ) {
-        Outcome::Refused(r) => { batch::put_head(stream, r.number as u64, r.place as u64) }
-        Outcome::Accepted(counts) => {
-            answer(
-                stream,
-                codes,
+        Err(r) => batch::put_head(stream, u64::from(r.number), r.place as u64),
+        Ok(counts) => {
+            let reading = Reading {
+                names: &names,
+                categories: &categories,
+                definitions: &definitions,
+                ranges: &ranges,
+                references: &references,
                 counts,
-                &names,
-                &categories,
-                &definitions,
-                &ranges,
-                &references,
-            )
+            };
+            answer(stream, codes, &reading)
         }
     }
 }
 
 // ---- records
-
-fn next_codes<R: Read, W: Write>(
-    from: &mut R,
-    stream: &mut W,
-    text: &[u8],
-    room: &mut [u8],
-) -> io::Result<bool> {
-    match batch::next_record(from, room)? {
-        Record::End => Ok(false),
-        Record::Text(size) => {
-            let n = batch::least(room, size);
-            answer_one(stream, text, &room[..n])?;
-            Ok(true)
-        }
-    }
-}
 
 fn next_pair<R: Read, W: Write>(
     from: &mut R,
@@ -235,13 +155,14 @@ fn next_pair<R: Read, W: Write>(
     text_room: &mut [u8],
     code_room: &mut [u8],
 ) -> io::Result<bool> {
-    match batch::next_record(from, text_room)? {
-        Record::End => Ok(false),
-        Record::Text(size) => {
-            let n = batch::least(text_room, size);
-            next_codes(from, stream, &text_room[..n], code_room)
-        }
-    }
+    let Some(text) = batch::next_record(from, text_room)? else {
+        return Ok(false);
+    };
+    let Some(codes) = batch::next_record(from, code_room)? else {
+        return Ok(false);
+    };
+    answer_one(stream, text, codes)?;
+    Ok(true)
 }
 
 // Nothing says that input ends, so the loop has a number of turns that no run uses up.
@@ -253,7 +174,7 @@ fn answer_all<R: Read, W: Write>(
 ) -> io::Result<()> {
     for _ in 0..u64::MAX {
         if !next_pair(from, stream, text_room, code_room)? {
-            return stream.flush();
+            break;
         }
     }
     stream.flush()

@@ -1,152 +1,101 @@
-// The rows and the flat table of a reading, as an answer says them.
-use crate::rooms::{is_left_u16, is_left_u32, least_u16, least_u32};
-use crate::writer::{add_count, add_runs, add_u8, add_u16s, add_u32s};
-use paper::BMP_SIZE;
-use std::io;
-use std::io::Write;
+// The rows and the flat table of a reading: the rooms that the builders are lent, and how many places of them they use. The rooms are filled before,
+// and what lies behind the used part must be as it was.
+use batch::least;
+use lookup::Located;
+use paper::{BMP_SIZE, Refusal};
+use row::RowCounts;
 
-// For each builder the number of its refusal or 0, and how many places of its rooms are used.
+pub const FILL_U16: u16 = 0xA5A5;
+
+pub const FILL_U32: u32 = 0xA5A5A5A5;
+
+// What the builders use of their rooms: nothing where they refuse.
 #[derive(Clone, Copy)]
-pub struct Tables {
-    pub number: u32,
+pub struct Used {
     pub rows: usize,
     pub places: usize,
-    pub flat_number: u32,
     pub entries: usize,
     pub flat_places: usize,
 }
 
-fn with_flat(number: u32, rows: usize, places: usize, flat: flat::Built) -> Tables {
-    match flat {
-        flat::Built::Flat(flat_places) => Tables {
-            number: number,
-            rows: rows,
-            places: places,
-            flat_number: 0,
-            entries: BMP_SIZE,
-            flat_places: flat_places,
-        },
-        flat::Built::Refused(r) => Tables {
-            number: number,
-            rows: rows,
-            places: places,
-            flat_number: r.number,
-            entries: 0,
-            flat_places: 0,
-        },
+pub fn used_by(rows: Result<RowCounts, Refusal>, flat: Result<usize, Refusal>) -> Used {
+    let rows = rows.unwrap_or(RowCounts { rows: 0, places: 0 });
+    Used {
+        rows: rows.rows,
+        places: rows.places,
+        entries: if flat.is_ok() { BMP_SIZE } else { 0 },
+        flat_places: flat.unwrap_or(0),
     }
 }
 
-pub fn built(rows: row::Built, flat: flat::Built) -> Tables {
-    match rows {
-        row::Built::Rows(c) => with_flat(0, c.rows, c.places, flat),
-        row::Built::Refused(r) => with_flat(r.number, 0, 0, flat),
+fn is_left<T: PartialEq + Copy>(room: &[T], used: usize, fill: T) -> bool {
+    room.iter().skip(used).all(|n| *n == fill)
+}
+
+#[derive(Clone, Copy)]
+pub struct Tables<'a> {
+    pub boundaries: &'a [u32],
+    pub starts: &'a [u32],
+    pub lengths: &'a [u16],
+    pub pool: &'a [u16],
+    pub index: &'a [u32],
+    pub flat_pool: &'a [u16],
+}
+
+impl<'a> Tables<'a> {
+    // The tables as long as they are used.
+    pub fn front(&self, n: Used) -> Tables<'a> {
+        Tables {
+            boundaries: &self.boundaries[..least(self.boundaries, n.rows)],
+            starts: &self.starts[..least(self.starts, n.rows)],
+            lengths: &self.lengths[..least(self.lengths, n.rows)],
+            pool: &self.pool[..least(self.pool, n.places)],
+            index: &self.index[..least(self.index, n.entries)],
+            flat_pool: &self.flat_pool[..least(self.flat_pool, n.flat_places)],
+        }
     }
-}
 
-// The number as a byte: that memory is not as it should be comes before a builder's own.
-fn verdict(number: u32, is_left: bool) -> u8 {
-    if is_left { (number % 256) as u8 } else { 255 }
-}
-
-fn rows_left(t: Tables, boundaries: &[u32], starts: &[u32], lengths: &[u16], pool: &[u16]) -> bool {
-    if !is_left_u32(boundaries, t.rows) {
-        return false;
+    // The rows alone.
+    pub fn without_flat(&self) -> Tables<'a> {
+        Tables {
+            index: &self.index[..0],
+            flat_pool: &self.flat_pool[..0],
+            ..*self
+        }
     }
-    if !is_left_u32(starts, t.rows) {
-        return false;
+
+    pub fn rows_left(&self, n: Used) -> bool {
+        is_left(self.boundaries, n.rows, FILL_U32)
+            && is_left(self.starts, n.rows, FILL_U32)
+            && is_left(self.lengths, n.rows, FILL_U16)
+            && is_left(self.pool, n.places, FILL_U16)
     }
-    if !is_left_u16(lengths, t.rows) {
-        return false;
+
+    pub fn flat_left(&self, n: Used) -> bool {
+        is_left(self.index, n.entries, FILL_U32) && is_left(self.flat_pool, n.flat_places, FILL_U16)
     }
-    is_left_u16(pool, t.places)
-}
 
-fn flat_left(t: Tables, index: &[u32], flat_pool: &[u16]) -> bool {
-    if !is_left_u32(index, t.entries) {
-        return false;
+    pub fn locate(&self, c: u32) -> Result<Located, Refusal> {
+        lookup::locate_categories(
+            self.index,
+            self.flat_pool,
+            self.boundaries,
+            self.starts,
+            self.lengths,
+            self.pool,
+            c,
+        )
     }
-    is_left_u16(flat_pool, t.flat_places)
-}
 
-fn add_counts<W: Write>(
-    stream: &mut W,
-    out: &mut [u8],
-    at: usize,
-    t: Tables,
-    sound: bool,
-) -> io::Result<usize> {
-    let mut to = add_u8(stream, out, at, verdict(t.number, sound))?;
-    to = add_count(stream, out, to, t.rows)?;
-    add_count(stream, out, to, t.places)
-}
-
-fn add_u32_part<W: Write>(
-    stream: &mut W,
-    out: &mut [u8],
-    at: usize,
-    numbers: &[u32],
-    used: usize,
-) -> io::Result<usize> {
-    let n = least_u32(numbers, used);
-    add_u32s(stream, out, at, &numbers[..n])
-}
-
-fn add_u16_part<W: Write>(
-    stream: &mut W,
-    out: &mut [u8],
-    at: usize,
-    numbers: &[u16],
-    used: usize,
-) -> io::Result<usize> {
-    let n = least_u16(numbers, used);
-    add_u16s(stream, out, at, &numbers[..n])
-}
-
-// Lengths, and the pool that they cut.
-fn add_pool<W: Write>(
-    stream: &mut W,
-    out: &mut [u8],
-    at: usize,
-    t: Tables,
-    lengths: &[u16],
-    pool: &[u16],
-) -> io::Result<usize> {
-    let to = add_u16_part(stream, out, at, lengths, t.rows)?;
-    add_u16_part(stream, out, to, pool, t.places)
-}
-
-// Boundaries, starts, lengths and the pool behind the counts.
-pub fn add_rows<W: Write>(
-    stream: &mut W,
-    out: &mut [u8],
-    at: usize,
-    t: Tables,
-    boundaries: &[u32],
-    starts: &[u32],
-    lengths: &[u16],
-    pool: &[u16],
-) -> io::Result<usize> {
-    let sound = rows_left(t, boundaries, starts, lengths, pool);
-    let mut to = add_counts(stream, out, at, t, sound)?;
-    to = add_u32_part(stream, out, to, boundaries, t.rows)?;
-    to = add_u32_part(stream, out, to, starts, t.rows)?;
-    add_pool(stream, out, to, t, lengths, pool)
-}
-
-// The pool behind its count, and the index by its runs.
-pub fn add_flat<W: Write>(
-    stream: &mut W,
-    out: &mut [u8],
-    at: usize,
-    t: Tables,
-    index: &[u32],
-    flat_pool: &[u16],
-) -> io::Result<usize> {
-    let sound = flat_left(t, index, flat_pool);
-    let mut to = add_u8(stream, out, at, verdict(t.flat_number, sound))?;
-    to = add_count(stream, out, to, t.flat_places)?;
-    to = add_u16_part(stream, out, to, flat_pool, t.flat_places)?;
-    let n = least_u32(index, t.entries);
-    add_runs(stream, out, to, &index[..n])
+    pub fn categories(&self, c: u32) -> &'a [u16] {
+        lookup::lookup_categories(
+            self.index,
+            self.flat_pool,
+            self.boundaries,
+            self.starts,
+            self.lengths,
+            self.pool,
+            c,
+        )
+    }
 }

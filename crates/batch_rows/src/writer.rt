@@ -1,114 +1,91 @@
-// An answer on its way to standard output: numbers go into a lent room with the least byte first, and the room is written where it is full. Each
-// function gives the place behind what it put.
-ghost use Rattle.std.specs.Prelude.{◌≤◌, length, IfOk};
-
+// An answer on its way to standard output: numbers go into a room with the least byte first, and the room is written where it is full.
 use std::io;
 use std::io::Write;
 
-const U16_BYTES: usize = 2;
+const OUT_ROOM: usize = 16384;
 
-const U32_BYTES: usize = 4;
+const COUNT_BYTES: usize = 4;
 
-const U32_SIZE: usize = 4294967296;
+const LENGTH_BYTES: usize = 2;
 
 // No flat entry is so large.
 const NO_ENTRY: u32 = 0xFFFFFFFF;
 
-// Where the next bytes go: behind the last ones, or to the start of a room that was written.
-fn place_for<W: Write>(stream: &mut W, out: &[u8], at: usize, width: usize) -> io::Result<usize>
-    ensures { IfOk result (λ n. n ≤ length out.now) }
-{
-    if width <= out.len() {
-        if at <= out.len() - width {
-            return Ok(at);
+// A room, how many of its bytes are used, and where they go.
+#[derive(Drop)]
+pub struct Page<'a, W: Write> {
+    stream: &'a mut W,
+    room: [u8; OUT_ROOM],
+    at: usize,
+}
+
+impl<'a, W: Write> Page<'a, W> {
+    pub fn new(stream: &'a mut W) -> Page<'a, W> {
+        Page {
+            stream,
+            room: [0; OUT_ROOM],
+            at: 0,
         }
     }
-    batch::put_part(stream, out, at)?;
-    Ok(0)
-}
 
-pub fn add_u8<W: Write>(stream: &mut W, out: &mut [u8], at: usize, n: u8) -> io::Result<usize> {
-    let to = place_for(stream, out, at, 1)?;
-    if to < out.len() {
-        out[to] = n;
-        return Ok(to + 1);
+    pub fn write(&mut self) -> io::Result<()> {
+        batch::put_part(self.stream, &self.room, self.at)?;
+        self.at = 0;
+        Ok(())
     }
-    Ok(to)
-}
 
-pub fn add_u16<W: Write>(stream: &mut W, out: &mut [u8], at: usize, n: u16) -> io::Result<usize> {
-    let to = place_for(stream, out, at, U16_BYTES)?;
-    table::put_u16(out, to, n);
-    Ok(to + U16_BYTES)
-}
-
-pub fn add_u32<W: Write>(stream: &mut W, out: &mut [u8], at: usize, n: u32) -> io::Result<usize> {
-    let to = place_for(stream, out, at, U32_BYTES)?;
-    table::put_u32(out, to, n);
-    Ok(to + U32_BYTES)
-}
-
-pub fn add_count<W: Write>(
-    stream: &mut W,
-    out: &mut [u8],
-    at: usize,
-    n: usize,
-) -> io::Result<usize> {
-    add_u32(stream, out, at, (n % U32_SIZE) as u32)
-}
-
-pub fn add_u16s<W: Write>(
-    stream: &mut W,
-    out: &mut [u8],
-    at: usize,
-    numbers: &[u16],
-) -> io::Result<usize> {
-    let mut to = at;
-    for i in 0..numbers.len() {
-        to = add_u16(stream, out, to, numbers[i])?;
-    }
-    Ok(to)
-}
-
-pub fn add_u32s<W: Write>(
-    stream: &mut W,
-    out: &mut [u8],
-    at: usize,
-    numbers: &[u32],
-) -> io::Result<usize> {
-    let mut to = at;
-    for i in 0..numbers.len() {
-        to = add_u32(stream, out, to, numbers[i])?;
-    }
-    Ok(to)
-}
-
-fn add_run<W: Write>(
-    stream: &mut W,
-    out: &mut [u8],
-    at: usize,
-    first: usize,
-    entry: u32,
-) -> io::Result<usize> {
-    let to = add_count(stream, out, at, first)?;
-    add_u32(stream, out, to, entry)
-}
-
-// Each place where an entry is not the one before it, with that entry; then how many entries there are.
-pub fn add_runs<W: Write>(
-    stream: &mut W,
-    out: &mut [u8],
-    at: usize,
-    entries: &[u32],
-) -> io::Result<usize> {
-    let mut to = at;
-    let mut last = NO_ENTRY;
-    for i in 0..entries.len() {
-        let entry = entries[i];
-        if entry != last {
-            to = add_run(stream, out, to, i, entry)?;
-            last = entry;
+    pub fn add_u8(&mut self, n: u8) -> io::Result<()> {
+        if OUT_ROOM <= self.at {
+            self.write()?;
         }
+        let at = self.at;
+        if at < OUT_ROOM {
+            self.room[at] = n;
+            self.at = at + 1;
+        }
+        Ok(())
     }
-    add_count(stream, out, to, entries.len())
+
+    pub fn add(&mut self, bytes: &[u8]) -> io::Result<()> {
+        for b in bytes {
+            self.add_u8(*b)?;
+        }
+        Ok(())
+    }
+
+    pub fn add_count(&mut self, n: usize) -> io::Result<()> {
+        self.add(&n.to_le_bytes()[..COUNT_BYTES])
+    }
+
+    pub fn add_length(&mut self, n: usize) -> io::Result<()> {
+        self.add(&n.to_le_bytes()[..LENGTH_BYTES])
+    }
+
+    // The two below stay apart: u16 and u32 share no trait with `to_le_bytes`, and one of our own would be longer than both.
+    pub fn add_u16s(&mut self, numbers: &[u16]) -> io::Result<()> {
+        for n in numbers {
+            self.add(&n.to_le_bytes())?;
+        }
+        Ok(())
+    }
+
+    pub fn add_u32s(&mut self, numbers: &[u32]) -> io::Result<()> {
+        for n in numbers {
+            self.add(&n.to_le_bytes())?;
+        }
+        Ok(())
+    }
+
+    // Each place where an entry is not the one before it, with that entry; then how many entries there are.
+    pub fn add_runs(&mut self, entries: &[u32]) -> io::Result<()> {
+        let mut last = NO_ENTRY;
+        for (i, entry) in entries.iter().enumerate() {
+            if *entry != last {
+                self.add_count(i)?;
+                self.add(&entry.to_le_bytes())?;
+                last = *entry;
+            }
+        }
+        self.add_count(entries.len())
+    }
 }

@@ -5,12 +5,13 @@
 
 mod words;
 
-use batch::{FAULT, FILL, GUARD, Record, TEXT_ROOM, few, is_kept, put_part, put_u16};
-use paper::{Counts, Outcome};
+use batch::{FAULT, FILL, GUARD, TEXT_ROOM, put_u16};
+use hold::Reading;
+use paper::Refusal;
 use std::io;
 use std::io::{Read, Write};
-use unk::UnkOutcome;
 use unk_enter::UnkCounts;
+use words::Words;
 
 const NAMES: usize = 16384;
 
@@ -41,207 +42,79 @@ const NO_READING: u64 = 254;
 // Refusals below it leave lent memory alone, and so does 26.
 const FIRST_ZERO: u32 = 4;
 
-// How many bytes of each table are used, and what stands behind them up to the size.
-#[derive(Clone, Copy)]
-pub struct Used {
-    pub entries: usize,
-    pub offsets: usize,
-    pub details: usize,
-    pub places: usize,
-    pub members: usize,
-    pub rest: u8,
-}
+// What a refusal leaves in the tables.
+const NOTHING: UnkCounts = UnkCounts {
+    entries: 0,
+    bytes: 0,
+};
 
-// ---- memory
-
-// 0 where every room is as it should be, else the number of the first that is not, from 1.
-fn fault(
-    u: Used,
-    entries: &[u8],
-    offsets: &[u8],
-    details: &[u8],
-    places: &[u8],
-    members: &[u8],
-) -> u64 {
-    if !is_kept(entries, u.entries, u.rest) {
-        return 1;
-    }
-    if !is_kept(offsets, u.offsets, u.rest) {
-        return 2;
-    }
-    if !is_kept(details, u.details, u.rest) {
-        return 3;
-    }
-    if !is_kept(places, u.places, u.rest) {
-        return 4;
-    }
-    if !is_kept(members, u.members, u.rest) {
-        return 5;
-    }
-    0
-}
-
-// How many entries the categories list: the last one's end where it begins and how many it has say it.
-fn listed(places: &[u8], categories: usize) -> usize {
-    let n = few(categories);
-    if n == 0 {
-        return 0;
-    }
-    let at = 4 * (n - 1);
-    few(table::get_u16(places, at) as usize) + few(table::get_u16(places, at + 2) as usize)
-}
-
-fn rest_after(number: u32) -> u8 {
-    if number == paper::TABLES_APART {
-        return FILL;
-    }
-    if number < FIRST_ZERO { FILL } else { 0 }
-}
-
-fn used_by(answer: &UnkOutcome, categories: usize, members: usize) -> Used {
+// What stands behind the used parts up to the sizes.
+fn rest_after(answer: &Result<UnkCounts, Refusal>) -> u8 {
     match answer {
-        UnkOutcome::Accepted(c) => Used {
-            entries: few(c.entries) * 8,
-            offsets: few(c.entries) * 4,
-            details: few(c.bytes),
-            places: few(categories) * 4,
-            members: few(members) * 2,
-            rest: 0,
-        },
-        UnkOutcome::Refused(r) => Used {
-            entries: 0,
-            offsets: 0,
-            details: 0,
-            places: 0,
-            members: 0,
-            rest: rest_after(r.number),
-        },
+        Err(r) if r.number == paper::TABLES_APART || r.number < FIRST_ZERO => FILL,
+        _ => 0,
     }
 }
 
 // ---- an answer
 
-fn put_counts<W: Write>(
-    out: &mut W,
-    c: UnkCounts,
-    categories: usize,
-    members: usize,
-) -> io::Result<()> {
+fn put_counts<W: Write>(out: &mut W, words: &Words) -> io::Result<()> {
     batch::put_head(out, 0, 0)?;
-    put_u16(out, c.entries)?;
-    put_u16(out, members)?;
-    put_u16(out, categories)?;
-    batch::put_u32(out, c.bytes)
+    put_u16(out, words.counts.entries)?;
+    put_u16(out, words.listed())?;
+    put_u16(out, words.categories)?;
+    batch::put_u32(out, words.counts.bytes)
 }
 
 fn put_answer<W: Write>(
     out: &mut W,
-    answer: UnkOutcome,
+    answer: Result<UnkCounts, Refusal>,
+    words: &Words,
     numbers: &[u8],
-    categories: usize,
-    entries: &[u8],
-    offsets: &[u8],
-    details: &[u8],
-    places: &[u8],
-    members: &[u8],
 ) -> io::Result<()> {
-    let found = listed(places, categories);
-    let u = used_by(&answer, categories, found);
-    let wrong = fault(u, entries, offsets, details, places, members);
-    if wrong != 0 {
-        return batch::put_head(out, FAULT, wrong - 1);
+    let tables = words.used();
+    if let Some(i) = batch::fault(&tables, rest_after(&answer)) {
+        return batch::put_head(out, FAULT, i as u64);
     }
-    match answer {
-        UnkOutcome::Refused(r) => { batch::put_head(out, r.number as u64, r.place as u64) }
-        UnkOutcome::Accepted(c) => {
-            put_counts(out, c, categories, found)?;
-            put_part(out, entries, u.entries)?;
-            put_part(out, offsets, u.offsets)?;
-            put_part(out, details, u.details)?;
-            put_part(out, places, u.places)?;
-            put_part(out, members, u.members)?;
-            words::put_all(
-                out, numbers, categories, c.entries, entries, offsets, details, places, members,
-            )
-        }
+    if let Err(r) = answer {
+        return batch::put_head(out, u64::from(r.number), r.place as u64);
     }
+    put_counts(out, words)?;
+    for t in &tables {
+        batch::put_part(out, t.room, t.len)?;
+    }
+    words.put_all(out, numbers)
 }
 
-fn answer<'a, W: Write>(
-    out: &mut W,
-    text: &[u8],
-    numbers: &[u8],
-    counts: Counts,
-    names: &'a [u8],
-    categories: &'a [u8],
-    definitions: &'a [u8],
-    ranges: &'a [u8],
-    references: &'a [u8],
-    entries: &mut [u8],
-    offsets: &mut [u8],
-    details: &mut [u8],
-    places: &mut [u8],
-    members: &mut [u8],
-) -> io::Result<()> {
-    let found = unk::parse_unk(
-        names,
-        categories,
-        definitions,
-        ranges,
-        references,
-        counts,
-        text,
-        entries,
-        offsets,
-        details,
-        places,
-        members,
-    );
-    put_answer(
-        out,
-        found,
-        numbers,
-        counts.categories,
-        entries,
-        offsets,
-        details,
-        places,
-        members,
-    )
-}
-
-fn answer_over<'a, W: Write>(
-    out: &mut W,
-    text: &[u8],
-    numbers: &[u8],
-    counts: Counts,
-    names: &'a [u8],
-    categories: &'a [u8],
-    definitions: &'a [u8],
-    ranges: &'a [u8],
-    references: &'a [u8],
-) -> io::Result<()> {
+fn answer<W: Write>(out: &mut W, reading: &Reading, text: &[u8], numbers: &[u8]) -> io::Result<()> {
     let mut entries = [FILL; ENTRIES];
     let mut offsets = [FILL; OFFSETS];
     let mut details = [FILL; DETAILS];
     let mut places = [FILL; PLACES];
     let mut members = [FILL; MEMBERS];
-    answer(
-        out,
+    let found = unk::parse_unk(
+        reading,
         text,
-        numbers,
-        counts,
-        names,
-        categories,
-        definitions,
-        ranges,
-        references,
         &mut entries,
         &mut offsets,
         &mut details,
         &mut places,
         &mut members,
-    )
+    );
+    let words = Words {
+        entries: &entries,
+        offsets: &offsets,
+        details: &details,
+        places: &places,
+        members: &members,
+        categories: if found.is_ok() {
+            reading.counts.categories
+        } else {
+            0
+        },
+        counts: found.unwrap_or(NOTHING),
+    };
+    put_answer(out, found, &words, numbers)
 }
 
 fn answer_one<W: Write>(
@@ -255,65 +128,28 @@ fn answer_one<W: Write>(
     let mut definitions = [0u8; DEFINITIONS];
     let mut ranges = [0u8; RANGES];
     let mut references = [0u8; REFERENCES];
-    match char_def::parse(
+    let Ok(counts) = char_def::parse(
         char_def,
         &mut names,
         &mut categories,
         &mut definitions,
         &mut ranges,
         &mut references,
-    ) {
-        Outcome::Refused(_) => { batch::put_head(out, NO_READING, 0) }
-        Outcome::Accepted(counts) => {
-            answer_over(
-                out,
-                text,
-                numbers,
-                counts,
-                &names,
-                &categories,
-                &definitions,
-                &ranges,
-                &references,
-            )
-        }
-    }
+    ) else {
+        return batch::put_head(out, NO_READING, 0);
+    };
+    let reading = Reading {
+        names: &names,
+        categories: &categories,
+        definitions: &definitions,
+        ranges: &ranges,
+        references: &references,
+        counts,
+    };
+    answer(out, &reading, text, numbers)
 }
 
 // ---- records
-
-fn next_numbers<R: Read, W: Write>(
-    from: &mut R,
-    out: &mut W,
-    char_def: &[u8],
-    text: &[u8],
-    room: &mut [u8],
-) -> io::Result<bool> {
-    match batch::next_record(from, room)? {
-        Record::End => Ok(false),
-        Record::Text(size) => {
-            let n = batch::least(room, size);
-            answer_one(out, char_def, text, &room[..n])?;
-            Ok(true)
-        }
-    }
-}
-
-fn next_text<R: Read, W: Write>(
-    from: &mut R,
-    out: &mut W,
-    char_def: &[u8],
-    room: &mut [u8],
-    number_room: &mut [u8],
-) -> io::Result<bool> {
-    match batch::next_record(from, room)? {
-        Record::End => Ok(false),
-        Record::Text(size) => {
-            let n = batch::least(room, size);
-            next_numbers(from, out, char_def, &room[..n], number_room)
-        }
-    }
-}
 
 fn next_three<R: Read, W: Write>(
     from: &mut R,
@@ -322,13 +158,17 @@ fn next_three<R: Read, W: Write>(
     room: &mut [u8],
     number_room: &mut [u8],
 ) -> io::Result<bool> {
-    match batch::next_record(from, char_room)? {
-        Record::End => Ok(false),
-        Record::Text(size) => {
-            let n = batch::least(char_room, size);
-            next_text(from, out, &char_room[..n], room, number_room)
-        }
-    }
+    let Some(char_def) = batch::next_record(from, char_room)? else {
+        return Ok(false);
+    };
+    let Some(text) = batch::next_record(from, room)? else {
+        return Ok(false);
+    };
+    let Some(numbers) = batch::next_record(from, number_room)? else {
+        return Ok(false);
+    };
+    answer_one(out, char_def, text, numbers)?;
+    Ok(true)
 }
 
 // Nothing says that input ends, so the loop has a number of turns that no run uses up.
@@ -341,7 +181,7 @@ fn answer_all<R: Read, W: Write>(
 ) -> io::Result<()> {
     for _ in 0..u64::MAX {
         if !next_three(from, out, char_room, room, number_room)? {
-            return out.flush();
+            break;
         }
     }
     out.flush()

@@ -15,19 +15,15 @@ pub extern "C" fn bench_rows<'a>(
     pool: &mut [u16],
     said: &mut [u64],
 ) -> u64 {
-    bench_entries::bench_rows(
+    let reading = bench_entries::reading_of(
         names,
         categories,
         definitions,
         ranges,
         references,
         counts,
-        boundaries,
-        starts,
-        lengths,
-        pool,
-        said,
-    )
+    );
+    bench_entries::bench_rows(&reading, boundaries, starts, lengths, pool, said)
 }
 
 #[unsafe(no_mangle)]
@@ -42,17 +38,15 @@ pub extern "C" fn bench_flat<'a>(
     flat_pool: &mut [u16],
     said: &mut [u64],
 ) -> u64 {
-    bench_entries::bench_flat(
+    let reading = bench_entries::reading_of(
         names,
         categories,
         definitions,
         ranges,
         references,
         counts,
-        flat_index,
-        flat_pool,
-        said,
-    )
+    );
+    bench_entries::bench_flat(&reading, flat_index, flat_pool, said)
 }
 
 // The lookups of a whole text, summed up so that none can be left out.
@@ -98,20 +92,16 @@ pub extern "C" fn bench_read_unk<'a>(
     members: &mut [u8],
     said: &mut [u64],
 ) -> u64 {
-    bench_entries::bench_read_unk(
+    let reading = bench_entries::reading_of(
         names,
         categories,
         definitions,
         ranges,
         references,
         counts,
-        text,
-        entries,
-        offsets,
-        details,
-        places,
-        members,
-        said,
+    );
+    bench_entries::bench_read_unk(
+        &reading, text, entries, offsets, details, places, members, said,
     )
 }
 
@@ -126,14 +116,13 @@ pub extern "C" fn bench_write_pack<'a>(
     out: &mut [u8],
     said: &mut [u64],
 ) -> u64 {
-    bench_entries::bench_write_pack(
+    let reading = bench_entries::reading_of(
         names,
         categories,
         definitions,
         ranges,
         references,
         counts,
-        out,
-        said,
-    )
+    );
+    bench_entries::bench_write_pack(&reading, out, said)
 }

@@ -2,22 +2,18 @@
 // Every function takes any list and any place; what doesn't fit a room is left out.
 ghost use Rattle.std.specs.Prelude.{◌≤◌};
 
-use crate::{after_field, byte_at, bytes_of, field_at, number_at};
+use crate::{after_field, byte_at, bytes_of, field_at, front, number_at};
 
 // No list has a number above it.
 const MOST: u64 = 100000;
 
-// The number of no room.
-pub const NO_ROOM: usize = 5;
-
-// Where the list is read, how long the text and the base are, which room is short (5: none), and whether a line ended here.
+// Where the list is read, how long the text and the base are, and the number of the room that is short.
 #[derive(Clone, Copy)]
 pub struct Reader {
     pub at: usize,
     pub size: usize,
     pub base: usize,
-    pub short: usize,
-    pub ended: bool,
+    pub short: Option<usize>,
 }
 
 pub fn bounded(n: u64) -> usize
@@ -31,17 +27,13 @@ pub fn put_field(list: &[u8], at: usize, text: &mut [u8], size: usize) -> usize 
     if text.len() < size {
         return text.len();
     }
-    let field = field_at(list, at);
-    let n = bytes_of(list, field.start, field.end, &mut text[size..]);
-    std::num::wrapping_add_usize(size, n)
+    size + bytes_of(field_at(list, at).text, &mut text[size..])
 }
 
 fn put_times(list: &[u8], at: usize, text: &mut [u8], size: usize, times: usize) -> usize {
     let mut end = size;
-    let mut k = 0;
-    while k < times {
+    for _ in 0..times {
         end = put_field(list, at, text, end);
-        k += 1;
     }
     end
 }
@@ -77,15 +69,10 @@ fn put_numbered(
     last: usize,
 ) -> usize {
     let mut end = size;
-    let mut k = first;
-    while k <= last {
+    for k in first..=last {
         let named = put_field(list, head, text, end);
         let numbered = put_digits(text, named, k);
         end = put_field(list, tail, text, numbered);
-        if 100000 < k {
-            return end;
-        }
-        k += 1;
     }
     end
 }
@@ -93,92 +80,86 @@ fn put_numbered(
 // The base's bytes from a place up to another.
 fn put_part(base: &[u8], from: usize, to: usize, text: &mut [u8], size: usize) -> usize {
     let mut end = size;
-    let mut at = from;
-    while at < to {
-        if base.len() <= at {
-            return end;
-        }
-        end = put_byte(text, end, base[at]);
-        at += 1;
+    for b in base.iter().take(to).skip(from) {
+        end = put_byte(text, end, *b);
     }
     end
 }
 
-pub fn keep(text: &[u8], size: usize, base: &mut [u8]) -> usize {
-    let mut at = 0;
-    while at < size {
-        if base.len() <= at {
-            return at;
-        }
-        base[at] = byte_at(text, at);
-        at += 1;
-    }
-    at
+// The base with a part of it replaced: fields say where the part begins, how long it is, and the bytes in its place.
+fn put_edited(list: &[u8], one: usize, text: &mut [u8], base: &[u8], r: Reader) -> usize {
+    let two = after_field(list, one);
+    let at = bounded(number_at(list, one));
+    let past = at + bounded(number_at(list, two));
+    let before = put_part(base, 0, at, text, r.size);
+    let come = put_field(list, after_field(list, two), text, before);
+    put_part(base, past, r.base, text, come)
 }
 
-// One item of a line that builds its text.
-fn item(list: &[u8], r: Reader, kind: u8, text: &mut [u8], base: &mut [u8]) -> Reader {
-    let mut next = r;
+// As much of a text as the base has room for; how much that is.
+pub fn keep(text: &[u8], base: &mut [u8]) -> usize {
+    let n = text.len().min(base.len());
+    base[..n].copy_from_slice(&text[..n]);
+    n
+}
+
+// The reader behind one item that builds the text; none where the line's text ends.
+fn item(list: &[u8], r: Reader, text: &mut [u8], base: &[u8]) -> Option<Reader> {
     let one = after_field(list, r.at);
     let two = after_field(list, one);
     let three = after_field(list, two);
     let four = after_field(list, three);
-    match kind {
-        b't' => {
-            next.size = put_field(list, one, text, r.size);
-            next.at = two;
-        }
-        b'x' => {
-            next.size = put_times(list, two, text, r.size, bounded(number_at(list, one)));
-            next.at = three;
-        }
+    match byte_at(list, r.at) {
+        b't' => Some(Reader {
+            size: put_field(list, one, text, r.size),
+            at: two,
+            ..r
+        }),
+        b'x' => Some(Reader {
+            size: put_times(list, two, text, r.size, bounded(number_at(list, one))),
+            at: three,
+            ..r
+        }),
         b'n' => {
             let first = bounded(number_at(list, one));
             let last = bounded(number_at(list, two));
-            next.size = put_numbered(list, three, four, text, r.size, first, last);
-            next.at = after_field(list, four);
+            Some(Reader {
+                size: put_numbered(list, three, four, text, r.size, first, last),
+                at: after_field(list, four),
+                ..r
+            })
         }
-        b'e' => {
-            let at = bounded(number_at(list, one));
-            let past = std::num::wrapping_add_usize(at, bounded(number_at(list, two)));
-            let before = put_part(base, 0, at, text, r.size);
-            let come = put_field(list, three, text, before);
-            next.size = put_part(base, past, r.base, text, come);
-            next.at = four;
-        }
-        b'o' => {
-            next.short = bounded(number_at(list, one));
-            next.at = two;
-        }
-        b'b' => {
-            next.base = keep(text, r.size, base);
-            next.ended = true;
-        }
-        _ => {
-            next.ended = true;
-        }
+        b'e' => Some(Reader {
+            size: put_edited(list, one, text, base, r),
+            at: four,
+            ..r
+        }),
+        b'o' => Some(Reader {
+            short: Some(bounded(number_at(list, one))),
+            at: two,
+            ..r
+        }),
+        _ => None,
     }
-    next
 }
 
-// The text of the line at a place: its items, up to the one that ends it. A line with `b` makes the text the base, whose length
-// travels from line to line.
+// The text of the line at a place: its items, up to the one that ends it. A line with `b` makes the text the base,
+// whose length travels from line to line.
 pub fn built(list: &[u8], at: usize, kept: usize, text: &mut [u8], base: &mut [u8]) -> Reader {
     let mut r = Reader {
         at,
         size: 0,
         base: kept,
-        short: NO_ROOM,
-        ended: false,
+        short: None,
     };
-    let mut left = list.len();
-    while 0 < left {
-        if r.ended {
-            return r;
-        }
-        left -= 1;
-        let kind = byte_at(list, r.at);
-        r = item(list, r, kind, text, base);
+    for _ in 0..list.len() {
+        let Some(next) = item(list, r, text, base) else {
+            break;
+        };
+        r = next;
+    }
+    if byte_at(list, r.at) == b'b' {
+        r.base = keep(front(text, r.size), base);
     }
     r
 }

@@ -1,27 +1,29 @@
 // How many lines of a list agreed and differed; each that differs is named.
 use std::io;
 
-#[derive(Clone, Copy)]
+#[derive(Clone, Copy, Default)]
 pub struct Tally {
     pub agreed: u64,
     pub differ: u64,
 }
 
-fn say_difference(rt: &impl Print, number: u64) -> io::Result<()> {
+pub fn say_difference(rt: &impl Print, number: u64) -> io::Result<()> {
     println!(rt; "line {number} differs")
 }
 
-pub fn noted(rt: &impl Print, t: Tally, agreed: bool, number: u64) -> io::Result<Tally> {
-    let mut next = t;
-    if agreed {
-        next.agreed = std::num::wrapping_add_u64(t.agreed, 1);
-        return Ok(next);
+impl Tally {
+    // Counts a line by its number.
+    pub fn note(&mut self, rt: &impl Print, agreed: bool, number: u64) -> io::Result<()> {
+        if agreed {
+            self.agreed = self.agreed.wrapping_add(1);
+            return Ok(());
+        }
+        say_difference(rt, number)?;
+        self.differ = self.differ.wrapping_add(1);
+        Ok(())
     }
-    say_difference(rt, number)?;
-    next.differ = std::num::wrapping_add_u64(t.differ, 1);
-    Ok(next)
-}
 
-pub fn say(rt: &impl Print, t: Tally) -> io::Result<()> {
-    println!(rt; "{} agreed, {} differed", t.agreed, t.differ)
+    pub fn say(&self, rt: &impl Print) -> io::Result<()> {
+        println!(rt; "{} agreed, {} differed", self.agreed, self.differ)
+    }
 }

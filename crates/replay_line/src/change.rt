@@ -1,23 +1,11 @@
-// What a line changes in the tables that are handed in, one field: an entry (`d`), a length (`s`) or a count (`k`). oracle/README.md has the
-// numbers of the tables.
-ghost use Rattle.replay.specs.Counts.{IsPrefixLen as CountsIn};
-
+// What a line changes in the tables that are handed in, one field: an entry (`d`), a length (`s`) or a count (`k`).
+// oracle/README.md has the numbers of the tables.
+use hold::Reading;
 use paper::Counts;
+use replay::rooms::{CATEGORIES, DEFINITIONS, NAMES, RANGES, REFERENCES, with_count};
 use replay::{after_field, byte_at, number_at};
 
-// The five tables of a reading stand one behind another in one room of bytes, each with bytes behind its size.
-pub const BEHIND: usize = 16;
-
-pub const NAMES: usize = 16384 + BEHIND;
-
-pub const CATEGORIES: usize = 2048 + BEHIND;
-
-pub const DEFINITIONS: usize = 3072 + BEHIND;
-
-pub const RANGES: usize = 16384 + BEHIND;
-
-pub const REFERENCES: usize = 16384 + BEHIND;
-
+// The five tables of a reading stand one behind another in one room of bytes.
 pub const CATEGORIES_AT: usize = NAMES;
 
 pub const DEFINITIONS_AT: usize = CATEGORIES_AT + CATEGORIES;
@@ -41,81 +29,53 @@ pub const INDEX: usize = 9;
 
 pub const FLAT: usize = 10;
 
-const BYTE: u64 = 256;
-
-const HALF: u64 = 65536;
-
-const WORD: u64 = 4294967296;
-
-// Kind 0 changes nothing. What follows it in the list begins at next.
 #[derive(Clone, Copy)]
-pub struct Change {
-    pub kind: u8,
-    pub table: usize,
-    pub at: usize,
-    pub value: u64,
-    pub next: usize,
+pub enum Change {
+    Entry { table: usize, at: usize, value: u64 },
+    Length { table: usize, size: usize },
+    Count { which: usize, count: usize },
 }
 
-// The change that is listed at a place, if there is one.
-pub fn change_at(list: &[u8], at: usize) -> Change {
+// The change that is listed at a place, if there is one, and where what follows it begins.
+pub fn change_at(list: &[u8], at: usize) -> (Option<Change>, usize) {
     let one = after_field(list, at);
     let two = after_field(list, one);
     let three = after_field(list, two);
-    let kind = byte_at(list, at);
-    let mut c = Change {
-        kind,
-        table: number_at(list, one) as usize,
-        at: number_at(list, two) as usize,
-        value: number_at(list, three),
-        next: three,
-    };
-    match kind {
+    let table = number_at(list, one) as usize;
+    let number = number_at(list, two) as usize;
+    match byte_at(list, at) {
         b'd' => {
-            c.next = after_field(list, three);
+            let value = number_at(list, three);
+            let entry = Change::Entry {
+                table,
+                at: number,
+                value,
+            };
+            (Some(entry), after_field(list, three))
         }
-        b's' => {}
-        b'k' => {}
-        _ => {
-            c.kind = 0;
-            c.next = at;
-        }
+        b's' => (
+            Some(Change::Length {
+                table,
+                size: number,
+            }),
+            three,
+        ),
+        b'k' => (
+            Some(Change::Count {
+                which: table,
+                count: number,
+            }),
+            three,
+        ),
+        _ => (None, at),
     }
-    c
 }
 
-pub fn counted(counts: Counts, c: Change) -> Counts {
-    let mut next = counts;
-    if c.kind != b'k' {
-        return next;
+pub fn counted(counts: Counts, c: Option<Change>) -> Counts {
+    match c {
+        Some(Change::Count { which, count }) => with_count(counts, which, count),
+        _ => counts,
     }
-    let n = c.at;
-    let which = c.table;
-    match which {
-        0 => {
-            next.categories = n;
-        }
-        1 => {
-            next.definitions = n;
-        }
-        2 => {
-            next.ranges = n;
-        }
-        3 => {
-            next.references = n;
-        }
-        _ => {
-            next.bytes = n;
-        }
-    }
-    next
-}
-
-fn sets(c: Change, which: usize) -> bool {
-    if c.kind != b'd' {
-        return false;
-    }
-    c.table == which
 }
 
 // Where a table begins in the room of the reading; past its end for a number of none.
@@ -131,113 +91,62 @@ fn start_of(table: usize) -> usize {
 }
 
 // The change of a reading's table.
-pub fn damage(reading: &mut [u8], c: Change) {
-    let at = std::num::wrapping_add_usize(start_of(c.table), c.at);
-    if c.kind == b'd' {
-        if at < reading.len() {
-            reading[at] = (c.value % BYTE) as u8;
-        }
+pub fn damage(reading: &mut [u8], c: Option<Change>) {
+    let Some(Change::Entry { table, at, value }) = c else {
+        return;
+    };
+    if let Some(entry) = reading.get_mut(start_of(table).wrapping_add(at)) {
+        *entry = (value % 256) as u8;
     }
 }
 
-pub fn put16(room: &mut [u16], which: usize, c: Change) {
-    let at = c.at;
-    if sets(c, which) {
-        if at < room.len() {
-            room[at] = (c.value % HALF) as u16;
-        }
+// The change of a table that is built: its entry becomes what the new value gives.
+pub fn put<T: Copy, F: FnOnce(u64) -> T>(room: &mut [T], which: usize, c: Option<Change>, low: F)
+    requires { F.IsAlwaysCallable low }
+{
+    let Some(Change::Entry { table, at, value }) = c else {
+        return;
+    };
+    if table != which {
+        return;
     }
-}
-
-pub fn put32(room: &mut [u32], which: usize, c: Change) {
-    let at = c.at;
-    if sets(c, which) {
-        if at < room.len() {
-            room[at] = (c.value % WORD) as u32;
-        }
+    if let Some(entry) = room.get_mut(at) {
+        *entry = low(value);
     }
 }
 
 // How long a table is lent that would be lent so long.
-pub fn length(which: usize, full: usize, c: Change) -> usize {
-    if c.kind != b's' {
-        return full;
+pub fn length(which: usize, full: usize, c: Option<Change>) -> usize {
+    match c {
+        Some(Change::Length { table, size }) if table == which => size,
+        _ => full,
     }
-    if c.table != which {
-        return full;
-    }
-    c.at
-}
-
-// ---- parts of rooms, all of one that is shorter
-
-pub fn part16<'a>(room: &'a [u16], n: usize) -> &'a [u16] {
-    if room.len() < n {
-        return room;
-    }
-    &room[0..n]
-}
-
-pub fn part32<'a>(room: &'a [u32], n: usize) -> &'a [u32] {
-    if room.len() < n {
-        return room;
-    }
-    &room[0..n]
 }
 
 // The part of so many that begins at a place, nothing where it does not lie in the room.
-pub fn window16<'a>(room: &'a [u16], start: usize, n: usize) -> &'a [u16] {
-    let end = std::num::wrapping_add_usize(start, n);
-    if end < start {
-        return &room[0..0];
-    }
-    if room.len() < end {
-        return &room[0..0];
-    }
-    &room[start..end]
-}
-
-fn window8<'a>(room: &'a [u8], start: usize, n: usize) -> &'a [u8] {
-    let end = std::num::wrapping_add_usize(start, n);
-    if end < start {
-        return &room[0..0];
-    }
-    if room.len() < end {
-        return &room[0..0];
-    }
-    &room[start..end]
+pub fn window<'a, T>(room: &'a [T], start: usize, n: usize) -> &'a [T] {
+    room.get(start..start.wrapping_add(n)).unwrap_or(&room[..0])
 }
 
 // A table of the reading as it is handed in.
-pub fn table<'a>(
+fn table<'a>(
     reading: &'a [u8],
     which: usize,
     start: usize,
     size: usize,
-    c: Change,
+    c: Option<Change>,
 ) -> &'a [u8] {
-    let n = length(which, size, c);
-    if size < n {
-        return window8(reading, start, size);
-    }
-    window8(reading, start, n)
+    window(reading, start, length(which, size, c).min(size))
 }
 
-// As many places as may be lent: no more than the room has.
-pub fn least16(room: &[u16], n: usize) -> usize
-    ensures { CountsIn result room.now }
-{
-    if room.len() < n {
-        return room.len();
+// The tables of the reading as they are handed in.
+pub fn handed<'a>(reading: &'a [u8], counts: Counts, c: Option<Change>) -> Reading<'a> {
+    Reading {
+        names: table(reading, 0, 0, NAMES, c),
+        categories: table(reading, 1, CATEGORIES_AT, CATEGORIES, c),
+        definitions: table(reading, 2, DEFINITIONS_AT, DEFINITIONS, c),
+        ranges: table(reading, 3, RANGES_AT, RANGES, c),
+        references: table(reading, 4, REFERENCES_AT, REFERENCES, c),
+        counts: counted(counts, c),
     }
-    n
-}
-
-pub fn least32(room: &[u32], n: usize) -> usize
-    ensures { CountsIn result room.now }
-{
-    if room.len() < n {
-        return room.len();
-    }
-    n
 }

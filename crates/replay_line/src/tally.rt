@@ -1,122 +1,112 @@
-// How many cases of each kind agreed, over tables that are sound and over damaged ones, and how many differed; each that differs is named.
-use replay::{after_field, byte_at};
+// How many cases of each kind agreed, over tables that are sound and over damaged ones, and how many differed; each
+// that differs is named.
+use replay::{after_field, byte_at, field_at};
 use std::io::{self, Write};
 
-// Where each kind is counted over sound tables; over damaged ones in the next place. Behind them stands how many differed.
-const ROWS: usize = 0;
-
-const FLAT: usize = 2;
-
-const NUMBERS: usize = 4;
-
-const NAMES: usize = 6;
-
-const SUMS: usize = 8;
-
-const LOOKUPS: usize = 10;
-
-const PACKED: usize = 12;
-
-const PLACES: usize = 14;
-
-const SEARCHES: usize = 16;
-
-const DIFFER: usize = 18;
-
-pub const SIZE: usize = 19;
-
-fn kind_of(letter: u8) -> usize {
-    match letter {
-        b'q' | b'y' | b'z' => ROWS,
-        b'f' | b'u' => FLAT,
-        b'm' => NUMBERS,
-        b'i' => NAMES,
-        b'a' => SUMS,
-        b'l' => LOOKUPS,
-        b'p' => PACKED,
-        b'c' => PLACES,
-        _ => SEARCHES,
-    }
+// The cases of a kind that agreed.
+#[derive(Clone, Copy, Default)]
+struct Agreed {
+    sound: u64,
+    damaged: u64,
 }
 
-fn bump(tally: &mut [u64], at: usize) {
-    if at < tally.len() {
-        tally[at] = std::num::wrapping_add_u64(tally[at], 1);
+#[derive(Clone, Copy, Default)]
+pub struct Tally {
+    rows: Agreed,
+    flat: Agreed,
+    numbers: Agreed,
+    names: Agreed,
+    sums: Agreed,
+    lookups: Agreed,
+    packed: Agreed,
+    places: Agreed,
+    searches: Agreed,
+    differ: u64,
+}
+
+impl Agreed {
+    fn add(&mut self, damaged: bool) {
+        if damaged {
+            self.damaged = self.damaged.wrapping_add(1);
+        } else {
+            self.sound = self.sound.wrapping_add(1);
+        }
+    }
+
+    fn say(&self, rt: &impl Print, name: &str) -> io::Result<()> {
+        println!(rt;
+            "{name}: {} agreed, {} more over damaged tables",
+            self.sound, self.damaged
+        )
     }
 }
 
 // The item by its letter and its first word.
 fn say_item(rt: &impl Print, list: &[u8], at: usize) -> io::Result<()> {
-    let field = replay::field_at(list, after_field(list, at));
-    let end = field.end;
-    if end < at {
+    let word = after_field(list, at);
+    let text = field_at(list, word).text;
+    let Some(item) = list.get(at..word.wrapping_add(text.len())) else {
         return Ok(());
-    }
-    if list.len() < end {
-        return Ok(());
-    }
-    io::writer(rt).write_all(&list[at..end])
+    };
+    io::writer(rt).write_all(item)
 }
 
-pub fn differs(
-    rt: &impl Print,
-    tally: &mut [u64],
-    list: &[u8],
-    at: usize,
-    number: u64,
-) -> io::Result<()> {
-    print!(rt; "line {number}: ")?;
-    say_item(rt, list, at)?;
-    println!(rt; " differs")?;
-    bump(tally, DIFFER);
-    Ok(())
-}
-
-// The case of the item at a place, in a line with this number.
-pub fn note(
-    rt: &impl Print,
-    tally: &mut [u64],
-    list: &[u8],
-    at: usize,
-    number: u64,
-    damaged: bool,
-    agreed: bool,
-) -> io::Result<()> {
-    if !agreed {
-        return differs(rt, tally, list, at, number);
+impl Tally {
+    fn add(&mut self, letter: u8, damaged: bool) {
+        match letter {
+            b'q' | b'y' | b'z' => self.rows.add(damaged),
+            b'f' | b'u' => self.flat.add(damaged),
+            b'm' => self.numbers.add(damaged),
+            b'i' => self.names.add(damaged),
+            b'a' => self.sums.add(damaged),
+            b'l' => self.lookups.add(damaged),
+            b'p' => self.packed.add(damaged),
+            b'c' => self.places.add(damaged),
+            _ => self.searches.add(damaged),
+        }
     }
-    let kind = kind_of(byte_at(list, at));
-    if damaged {
-        bump(tally, std::num::wrapping_add_usize(kind, 1));
-        return Ok(());
+
+    pub fn differs(
+        &mut self,
+        rt: &impl Print,
+        list: &[u8],
+        at: usize,
+        number: u64,
+    ) -> io::Result<()> {
+        print!(rt; "line {number}: ")?;
+        say_item(rt, list, at)?;
+        println!(rt; " differs")?;
+        self.differ = self.differ.wrapping_add(1);
+        Ok(())
     }
-    bump(tally, kind);
-    Ok(())
-}
 
-fn count_at(tally: &[u64], at: usize) -> u64 {
-    if at < tally.len() {
-        return tally[at];
+    // The case of the item at a place, in a line with this number.
+    pub fn note(
+        &mut self,
+        rt: &impl Print,
+        list: &[u8],
+        at: usize,
+        number: u64,
+        damaged: bool,
+        agreed: bool,
+    ) -> io::Result<()> {
+        if !agreed {
+            return self.differs(rt, list, at, number);
+        }
+        self.add(byte_at(list, at), damaged);
+        Ok(())
     }
-    0
-}
 
-fn say_kind(rt: &impl Print, tally: &[u64], kind: usize, name: &str) -> io::Result<()> {
-    let damaged = std::num::wrapping_add_usize(kind, 1);
-    let sound = count_at(tally, kind);
-    let more = count_at(tally, damaged);
-    println!(rt; "{name}: {sound} agreed, {more} more over damaged tables")
-}
-
-pub fn say(rt: &impl Print, tally: &[u64]) -> io::Result<()> {
-    say_kind(rt, tally, ROWS, "rows")?;
-    say_kind(rt, tally, FLAT, "flat tables")?;
-    say_kind(rt, tally, NUMBERS, "names and definitions by number")?;
-    say_kind(rt, tally, NAMES, "numbers by name")?;
-    say_kind(rt, tally, SUMS, "sums over the BMP")?;
-    say_kind(rt, tally, LOOKUPS, "lookups")?;
-    say_kind(rt, tally, PACKED, "packed lookups")?;
-    say_kind(rt, tally, PLACES, "places of the flat pool")?;
-    say_kind(rt, tally, SEARCHES, "searches among boundaries")?;
-    println!(rt; "{} differed", count_at(tally, DIFFER))
+    pub fn say(&self, rt: &impl Print) -> io::Result<()> {
+        self.rows.say(rt, "rows")?;
+        self.flat.say(rt, "flat tables")?;
+        self.numbers.say(rt, "names and definitions by number")?;
+        self.names.say(rt, "numbers by name")?;
+        self.sums.say(rt, "sums over the BMP")?;
+        self.lookups.say(rt, "lookups")?;
+        self.packed.say(rt, "packed lookups")?;
+        self.places.say(rt, "places of the flat pool")?;
+        self.searches.say(rt, "searches among boundaries")?;
+        println!(rt; "{} differed", self.differ)
+    }
 }

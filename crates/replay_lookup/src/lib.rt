@@ -1,4 +1,5 @@
-// The items of oracle/lists/rows.txt that ask something of tables as they stand, for try_lookup: lookups, names, definitions and numbers.
+// The items of oracle/lists/rows.txt that ask something of tables as they stand, for try_lookup: lookups, names,
+// definitions and numbers.
 #![tactic(auto)]
 
 pub mod lookups;

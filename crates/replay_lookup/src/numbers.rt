@@ -1,121 +1,89 @@
 // Names and definitions by number (`m`), and numbers by name (`i`), over the tables of a reading as they are handed in.
-use by_name::CategoryFound;
-use numbered::{CategoryData, DefinitionFound, NameFound};
-use paper::Counts;
+use hold::Reading;
+use numbered::CategoryData;
+use packed::Span;
+use paper::Refusal;
 use replay::rooms::field_behind;
-use replay::{after_field, byte_at, number_at};
-use replay_line::{tally, words};
+use replay::words::refuses;
+use replay::{after_field, byte_at, field_at, number_at};
+use replay_line::tally::Tally;
+use replay_line::words::{is_number, spells};
 use std::io;
-
-const BYTE: u32 = 256;
 
 // No name of the list is so long.
 const LONGEST_NAME: usize = 1024;
 
-fn flag(b: bool) -> u8 {
-    if b { 1 } else { 0 }
-}
-
 // A definition in six bytes: its length, invoke, group.
-fn definition_agrees(list: &[u8], at: usize, found: DefinitionFound) -> bool {
+fn definition_agrees(list: &[u8], at: usize, found: Result<CategoryData, Refusal>) -> bool {
     match found {
-        DefinitionFound::Definition(d) => spelled(list, at, d),
-        DefinitionFound::Refused(r) => words::refuses(list, at, r),
+        Ok(d) => {
+            let [a, b, c, e] = d.length.to_le_bytes();
+            spells(
+                list,
+                at,
+                &[a, b, c, e, u8::from(d.invoke), u8::from(d.group)],
+            )
+        }
+        Err(r) => refuses(list, at, r),
     }
 }
 
-fn spelled(list: &[u8], at: usize, d: CategoryData) -> bool {
-    let n = d.length;
-    let bytes = [
-        (n % BYTE) as u8,
-        (n / BYTE % BYTE) as u8,
-        (n / BYTE / BYTE % BYTE) as u8,
-        (n / BYTE / BYTE / BYTE) as u8,
-        flag(d.invoke),
-        flag(d.group),
-    ];
-    words::spells(list, at, &bytes)
-}
-
 // A name is empty where its lookup refuses.
-fn name_agrees(list: &[u8], at: usize, found: NameFound, part: &[u8]) -> bool {
+fn name_agrees(list: &[u8], at: usize, found: Result<Span, Refusal>, part: &[u8]) -> bool {
     match found {
-        NameFound::At(s) => {
-            if s.len != part.len() {
-                return false;
-            }
-            words::spells(list, at, part)
-        }
-        NameFound::Refused(r) => {
-            if part.len() != 0 {
-                return false;
-            }
-            words::refuses(list, at, r)
-        }
+        Ok(s) => s.len == part.len() && spells(list, at, part),
+        Err(r) => part.is_empty() && refuses(list, at, r),
     }
 }
 
 // `m NUMBER NAME DEFINITION`, from the number on.
-fn number_agrees(
-    list: &[u8],
-    at: usize,
-    names: &[u8],
-    categories: &[u8],
-    definitions: &[u8],
-    counts: Counts,
-) -> bool {
+fn number_agrees(list: &[u8], at: usize, reading: &Reading) -> bool {
     let id = number_at(list, at) as usize;
     let name = after_field(list, at);
-    if !name_agrees(
-        list,
-        name,
-        numbered::locate_name(names, categories, counts.categories, id),
-        numbered::category_name(names, categories, counts.categories, id),
-    ) {
-        return false;
-    }
-    let found = numbered::lookup_definition(definitions, counts.definitions, id);
-    definition_agrees(list, after_field(list, name), found)
+    let count = reading.counts.categories;
+    let place = numbered::locate_name(reading.names, reading.categories, count, id);
+    let part = numbered::category_name(reading.names, reading.categories, count, id);
+    let found = numbered::lookup_definition(reading.definitions, reading.counts.definitions, id);
+    name_agrees(list, name, place, part) && definition_agrees(list, after_field(list, name), found)
 }
 
-fn found_agrees(list: &[u8], at: usize, found: CategoryFound) -> bool {
+fn found_agrees(list: &[u8], at: usize, found: Result<Option<usize>, Refusal>) -> bool {
     match found {
-        CategoryFound::Category(n) => words::is_number(list, at, n as u64),
-        CategoryFound::Absent => byte_at(list, at) == b'-',
-        CategoryFound::Refused(r) => words::refuses(list, at, r),
+        Ok(Some(n)) => is_number(list, at, n as u64),
+        Ok(None) => byte_at(list, at) == b'-',
+        Err(r) => refuses(list, at, r),
     }
 }
 
 // `i NAME ANSWER`, from the name on.
-fn wanted_agrees(list: &[u8], at: usize, names: &[u8], categories: &[u8], count: usize) -> bool {
+fn wanted_agrees(list: &[u8], at: usize, reading: &Reading) -> bool {
     let mut room = [0u8; LONGEST_NAME];
-    let field = replay::field_at(list, at);
-    let n = replay::bytes_of(list, field.start, field.end, &mut room);
-    let found = numbered::category_id_by_name(names, categories, count, &room[..n]);
+    let field = field_at(list, at);
+    let n = replay::bytes_of(field.text, &mut room);
+    let found = numbered::category_id_by_name(
+        reading.names,
+        reading.categories,
+        reading.counts.categories,
+        &room[..n],
+    );
     found_agrees(list, field.next, found)
 }
 
-fn agrees(
-    list: &[u8],
-    at: usize,
-    names: &[u8],
-    categories: &[u8],
-    definitions: &[u8],
-    counts: Counts,
-) -> bool {
+fn agrees(list: &[u8], at: usize, reading: &Reading) -> bool {
     let one = after_field(list, at);
     if byte_at(list, at) == b'm' {
-        return number_agrees(list, one, names, categories, definitions, counts);
+        number_agrees(list, one, reading)
+    } else {
+        wanted_agrees(list, one, reading)
     }
-    wanted_agrees(list, one, names, categories, counts.categories)
 }
 
-// Where the item behind one begins; the same place where it is none of these.
-fn behind(list: &[u8], at: usize) -> usize {
+// Where the item behind one begins, if it is one of these.
+fn behind(list: &[u8], at: usize) -> Option<usize> {
     match byte_at(list, at) {
-        b'm' => field_behind(list, at, 4),
-        b'i' => field_behind(list, at, 3),
-        _ => at,
+        b'm' => Some(field_behind(list, at, 4)),
+        b'i' => Some(field_behind(list, at, 3)),
+        _ => None,
     }
 }
 
@@ -124,24 +92,17 @@ pub fn noted(
     rt: &impl Print,
     list: &[u8],
     start: usize,
-    names: &[u8],
-    categories: &[u8],
-    definitions: &[u8],
-    counts: Counts,
+    reading: &Reading,
     damaged: bool,
     number: u64,
-    tally: &mut [u64],
+    tally: &mut Tally,
 ) -> io::Result<usize> {
     let mut at = start;
-    let mut left = list.len();
-    while 0 < left {
-        left -= 1;
-        let next = behind(list, at);
-        if next == at {
+    for _ in 0..list.len() {
+        let Some(next) = behind(list, at) else {
             return Ok(at);
-        }
-        let agreed = agrees(list, at, names, categories, definitions, counts);
-        tally::note(rt, tally, list, at, number, damaged, agreed)?;
+        };
+        tally.note(rt, list, at, number, damaged, agrees(list, at, reading))?;
         at = next;
     }
     Ok(at)

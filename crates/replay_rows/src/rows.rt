@@ -1,23 +1,27 @@
-// Rows that are built of a reading, into rooms one place short (17), exact and longer, or that are refused in all of them; and what is left in
-// the rooms: the Rust's rows, and behind them what was there.
-use paper::{Counts, TABLE_ROOM_SHORT};
-use replay::rooms::field_behind;
-use replay::{after_field, byte_at, number_at};
-use replay_line::change::{BEHIND, Change};
-use replay_line::{change, sums, words};
-use row::Built;
+// Rows that are built of a reading, into rooms one place short (17), exact and longer, or that are refused in all of
+// them; and what is left in the rooms: the Rust's rows, and behind them what was there.
+use hold::Reading;
+use paper::{Refusal, TABLE_ROOM_SHORT};
+use replay::rooms::{GUARD, field_behind};
+use replay::sums::{self, Summed};
+use replay::{after_field, byte_at, front, hex_at, number_at};
+use replay_line::change::window;
+use replay_line::tables::Rows;
+use replay_line::words;
+use row::RowCounts;
 
 pub const FILL32: u32 = 0xA5A5A5A5;
 
 pub const FILL16: u16 = 0xA5A5;
 
-// The most rows that there can be, with what is lent behind them and what is not; and more places than any row pool of the list has. (There
-// can be four times as many, but no array that long can be checked.)
-pub const ROWS: usize = 4097 + 2 * BEHIND;
+// The most rows that there can be, with what is lent behind them and what is not; and more places than any row pool
+// of the list has. (There can be four times as many, but no array that long can be checked.)
+pub const ROWS: usize = 4097 + 2 * GUARD;
 
 pub const PLACES: usize = 524288;
 
-// A call of its own, here and for the other long rooms, so that its caller's proof has no list of half a million numbers in it.
+// A call of its own, here and for the other long rooms, so that its caller's proof has no list of half a million
+// numbers in it.
 pub fn pool_room() -> [u16; PLACES] {
     [FILL16; PLACES]
 }
@@ -25,226 +29,146 @@ pub fn pool_room() -> [u16; PLACES] {
 // The tries: each of the four slices one short, all exact, all longer.
 const SLICES: usize = 4;
 
-const LONGER: usize = 5;
-
 const TRIES: usize = 6;
 
-// Nothing is refused.
-const BUILT: u64 = 0;
-
-// What an item at a place asks: rows, places, or the refusal; and the try.
+// What an item at a place asks: rows and places, or the refusal.
 #[derive(Clone, Copy)]
 pub struct Asked {
     pub at: usize,
     pub rows: usize,
     pub places: usize,
-    pub refused: u64,
-    pub attempt: usize,
+    pub refused: Option<u64>,
 }
 
-// How many places a slice is lent: its need, one less where it is the one that is short, more where all are longer.
-pub fn lends(need: usize, which: usize, attempt: usize, longer: usize) -> usize {
-    if attempt == longer {
-        return std::num::wrapping_add_usize(need, BEHIND);
-    }
-    if attempt != which {
-        return need;
-    }
-    if need == 0 {
-        return need;
-    }
-    need - 1
+// A refusal by its number; 0 is none.
+pub fn refusal_of(number: u64) -> Option<u64> {
+    if number == 0 { None } else { Some(number) }
 }
 
-// What is answered where one of so many slices with these needs is lent short.
-pub fn expected(refused: u64, attempt: usize, slices: usize, need: usize) -> u64 {
-    if refused != BUILT {
-        return refused;
+// How many places a slice is lent: its need, one less where it is the one that is short, more where all of so many
+// are longer.
+pub fn lends(need: usize, which: usize, attempt: usize, slices: usize) -> usize {
+    if slices < attempt {
+        need.wrapping_add(GUARD)
+    } else if attempt == which {
+        need.saturating_sub(1)
+    } else {
+        need
     }
-    if slices <= attempt {
-        return BUILT;
-    }
-    if need == 0 {
-        return BUILT;
-    }
-    TABLE_ROOM_SHORT as u64
 }
 
-pub fn untouched32(room: &[u32], from: usize) -> bool {
-    let mut at = from;
-    while at < room.len() {
-        if room[at] != FILL32 {
-            return false;
-        }
-        at += 1;
+// The refusal where one of so many slices with these needs is lent short.
+pub fn expected(refused: Option<u64>, attempt: usize, slices: usize, need: usize) -> Option<u64> {
+    if refused.is_none() && attempt < slices && need != 0 {
+        return Some(u64::from(TABLE_ROOM_SHORT));
     }
-    true
+    refused
 }
 
-pub fn untouched16(room: &[u16], from: usize) -> bool {
-    let mut at = from;
-    while at < room.len() {
-        if room[at] != FILL16 {
-            return false;
-        }
-        at += 1;
-    }
-    true
+// Every number from a place on is as before the call.
+pub fn untouched<T: Copy + PartialEq>(room: &[T], from: usize, fill: T) -> bool {
+    room.iter().skip(from).all(|n| *n == fill)
 }
 
 // As much of a room as can be touched, and as much behind it.
 pub fn near(need: usize) -> usize {
-    std::num::wrapping_add_usize(need, 2 * BEHIND)
+    need.wrapping_add(2 * GUARD)
 }
 
 // The four slices are as before from these places on.
-fn untouched(
-    boundaries: &[u32],
-    starts: &[u32],
-    lengths: &[u16],
-    pool: &[u16],
-    a: Asked,
-    from: usize,
-    place: usize,
-) -> bool {
-    let rows = near(a.rows);
-    if !untouched32(change::part32(boundaries, rows), from) {
-        return false;
-    }
-    if !untouched32(change::part32(starts, rows), from) {
-        return false;
-    }
-    if !untouched16(change::part16(lengths, rows), from) {
-        return false;
-    }
-    untouched16(change::part16(pool, near(a.places)), place)
+fn all_untouched(rows: Rows, a: Asked, from: usize, place: usize) -> bool {
+    let near_rows = near(a.rows);
+    untouched(front(rows.boundaries, near_rows), from, FILL32)
+        && untouched(front(rows.starts, near_rows), from, FILL32)
+        && untouched(front(rows.lengths, near_rows), from, FILL16)
+        && untouched(front(rows.pool, near(a.places)), place, FILL16)
 }
 
-fn at32(t: &[u32], at: usize) -> u32 {
-    if at < t.len() {
-        return t[at];
-    }
-    FILL32
+fn start_of(rows: Rows, i: usize) -> usize {
+    rows.starts.get(i).copied().unwrap_or(FILL32) as usize
 }
 
-fn at16(t: &[u16], at: usize) -> u16 {
-    if at < t.len() {
-        return t[at];
-    }
-    FILL16
+fn length_of(rows: Rows, i: usize) -> usize {
+    usize::from(rows.lengths.get(i).copied().unwrap_or(FILL16))
 }
 
 // Each row begins where the one before ends, and is as listed from a place on: boundary, length, numbers.
-fn spelled(
-    list: &[u8],
-    at: usize,
-    boundaries: &[u32],
-    starts: &[u32],
-    lengths: &[u16],
-    pool: &[u16],
-) -> bool {
+fn spelled(list: &[u8], at: usize, rows: Rows) -> bool {
     let mut field = at;
     let mut start: usize = 0;
-    let mut i = 0;
-    while i < boundaries.len() {
-        let len = at16(lengths, i) as usize;
-        if at32(starts, i) as usize != start {
-            return false;
-        }
-        if number_at(list, field) != sums::wide32(boundaries[i]) {
-            return false;
-        }
+    for (i, boundary) in rows.boundaries.iter().enumerate() {
+        let len = length_of(rows, i);
         let count = after_field(list, field);
-        if !words::are_numbers(list, count, change::window16(pool, start, len)) {
+        if start_of(rows, i) != start
+            || number_at(list, field) != u64::from(*boundary)
+            || !words::are_numbers(list, count, window(rows.pool, start, len))
+        {
             return false;
         }
-        field = field_behind(list, count, std::num::wrapping_add_usize(len, 1));
-        start = std::num::wrapping_add_usize(start, len);
-        i += 1;
+        field = after_field(list, field_behind(list, count, len));
+        start = start.wrapping_add(len);
     }
     true
 }
 
 // The sum over each row's boundary, length and numbers, and none where a row does not begin where the one before ends.
-fn summed(boundaries: &[u32], starts: &[u32], lengths: &[u16], pool: &[u16]) -> u64 {
+fn summed(rows: Rows) -> u32 {
     let mut total = sums::START;
     let mut start: usize = 0;
-    let mut i = 0;
-    while i < boundaries.len() {
-        let len = at16(lengths, i) as usize;
-        if at32(starts, i) as usize != start {
+    for (i, boundary) in rows.boundaries.iter().enumerate() {
+        let len = length_of(rows, i);
+        if start_of(rows, i) != start {
             return 0;
         }
-        total = sums::row(
-            sums::mixed32(total, boundaries[i]),
-            change::window16(pool, start, len),
-        );
-        start = std::num::wrapping_add_usize(start, len);
-        i += 1;
+        total = sums::row(boundary.mixed_into(total), window(rows.pool, start, len));
+        start = start.wrapping_add(len);
     }
     total
 }
 
 // The rows are those of the item.
-fn are_listed(
-    list: &[u8],
-    a: Asked,
-    boundaries: &[u32],
-    starts: &[u32],
-    lengths: &[u16],
-    pool: &[u16],
-) -> bool {
-    let rows = field_behind(list, a.at, 3);
-    let b = change::part32(boundaries, a.rows);
+fn are_listed(list: &[u8], a: Asked, rows: Rows) -> bool {
+    let said = field_behind(list, a.at, 3);
+    let asked = Rows {
+        boundaries: front(rows.boundaries, a.rows),
+        ..rows
+    };
     if byte_at(list, a.at) == b'y' {
-        return summed(b, starts, lengths, pool) == words::sum_at(list, rows);
+        return u64::from(summed(asked)) == hex_at(list, said);
     }
-    spelled(list, rows, b, starts, lengths, pool)
+    spelled(list, said, asked)
 }
 
-fn need_of(a: Asked) -> usize {
-    if a.attempt == SLICES - 1 {
-        return a.places;
+fn need_of(a: Asked, attempt: usize) -> usize {
+    if attempt == SLICES - 1 {
+        a.places
+    } else {
+        a.rows
     }
-    a.rows
 }
 
 // The answer and what is left in the rooms.
 fn agrees(
     list: &[u8],
     a: Asked,
-    built: Built,
-    boundaries: &[u32],
-    starts: &[u32],
-    lengths: &[u16],
-    pool: &[u16],
+    attempt: usize,
+    built: Result<RowCounts, Refusal>,
+    rows: Rows,
 ) -> bool {
-    let number = expected(a.refused, a.attempt, SLICES, need_of(a));
-    match built {
-        Built::Refused(r) => {
-            if r.place != 0 {
-                return false;
-            }
-            if r.number as u64 != number {
-                return false;
-            }
-            untouched(boundaries, starts, lengths, pool, a, 0, 0)
+    match (
+        built,
+        expected(a.refused, attempt, SLICES, need_of(a, attempt)),
+    ) {
+        (Err(r), Some(number)) => {
+            r.place == 0 && u64::from(r.number) == number && all_untouched(rows, a, 0, 0)
         }
-        Built::Rows(n) => {
-            if number != BUILT {
-                return false;
-            }
-            if n.rows != a.rows {
-                return false;
-            }
-            if n.places != a.places {
-                return false;
-            }
-            if !are_listed(list, a, boundaries, starts, lengths, pool) {
-                return false;
-            }
-            untouched(boundaries, starts, lengths, pool, a, a.rows, a.places)
+        (Ok(n), None) => {
+            n.rows == a.rows
+                && n.places == a.places
+                && are_listed(list, a, rows)
+                && all_untouched(rows, a, a.rows, a.places)
         }
+        _ => false,
     }
 }
 
@@ -252,93 +176,81 @@ fn agrees(
 fn tried(
     list: &[u8],
     a: Asked,
-    reading: &[u8],
-    counts: Counts,
-    c: Change,
+    attempt: usize,
+    reading: &Reading,
     boundaries: &mut [u32],
     starts: &mut [u32],
     lengths: &mut [u16],
     pool: &mut [u16],
 ) -> bool {
-    let attempt = a.attempt;
-    let names = change::table(reading, 0, 0, change::NAMES, c);
-    let categories = change::table(reading, 1, change::CATEGORIES_AT, change::CATEGORIES, c);
-    let definitions = change::table(reading, 2, change::DEFINITIONS_AT, change::DEFINITIONS, c);
-    let ranges = change::table(reading, 3, change::RANGES_AT, change::RANGES, c);
-    let references = change::table(reading, 4, change::REFERENCES_AT, change::REFERENCES, c);
-    let w = change::least32(boundaries, lends(a.rows, 0, attempt, LONGER));
-    let x = change::least32(starts, lends(a.rows, 1, attempt, LONGER));
-    let y = change::least16(lengths, lends(a.rows, 2, attempt, LONGER));
-    let z = change::least16(pool, lends(a.places, 3, attempt, LONGER));
+    let w = lends(a.rows, 0, attempt, SLICES).min(boundaries.len());
+    let x = lends(a.rows, 1, attempt, SLICES).min(starts.len());
+    let y = lends(a.rows, 2, attempt, SLICES).min(lengths.len());
+    let z = lends(a.places, 3, attempt, SLICES).min(pool.len());
     let built = row::build_lookup_table(
-        names,
-        categories,
-        definitions,
-        ranges,
-        references,
-        counts,
+        reading,
         &mut boundaries[..w],
         &mut starts[..x],
         &mut lengths[..y],
         &mut pool[..z],
     );
-    agrees(list, a, built, boundaries, starts, lengths, pool)
+    let rows = Rows {
+        boundaries,
+        starts,
+        lengths,
+        pool,
+    };
+    agrees(list, a, attempt, built, rows)
 }
 
 // What the item at a place asks of the rows.
 pub fn asked_at(list: &[u8], at: usize) -> Asked {
     let one = after_field(list, at);
-    let mut a = Asked {
-        at,
-        rows: number_at(list, one) as usize,
-        places: number_at(list, after_field(list, one)) as usize,
-        refused: BUILT,
-        attempt: 0,
-    };
+    let number = number_at(list, one);
     if byte_at(list, at) == b'z' {
-        a.refused = number_at(list, one);
-        a.rows = 0;
-        a.places = 0;
+        return Asked {
+            at,
+            rows: 0,
+            places: 0,
+            refused: refusal_of(number),
+        };
     }
-    a
+    Asked {
+        at,
+        rows: number as usize,
+        places: number_at(list, after_field(list, one)) as usize,
+        refused: None,
+    }
 }
 
 // All tries of an item.
 pub fn all_agree(
     list: &[u8],
-    asked: Asked,
-    reading: &[u8],
-    counts: Counts,
-    c: Change,
+    a: Asked,
+    reading: &Reading,
     boundaries: &mut [u32],
     starts: &mut [u32],
     lengths: &mut [u16],
     pool: &mut [u16],
 ) -> bool {
-    let mut a = asked;
-    let mut k = 0;
-    while k < TRIES {
-        a.attempt = k;
-        if !tried(
-            list, a, reading, counts, c, boundaries, starts, lengths, pool,
-        ) {
+    for attempt in 0..TRIES {
+        if !tried(list, a, attempt, reading, boundaries, starts, lengths, pool) {
             return false;
         }
-        k += 1;
     }
     true
 }
 
 // Where the item behind the one of the rows begins: `q` has a boundary, a length and numbers for each row.
 pub fn behind(list: &[u8], a: Asked) -> usize {
-    let places = std::num::wrapping_add_usize(a.rows, a.places);
-    match byte_at(list, a.at) {
-        b'q' => field_behind(
-            list,
-            a.at,
-            std::num::wrapping_add_usize(3, std::num::wrapping_add_usize(a.rows, places)),
-        ),
-        b'y' => field_behind(list, a.at, 4),
-        _ => field_behind(list, a.at, 2),
-    }
+    let fields = match byte_at(list, a.at) {
+        b'q' => a
+            .rows
+            .wrapping_add(a.rows)
+            .wrapping_add(a.places)
+            .wrapping_add(3),
+        b'y' => 4,
+        _ => 2,
+    };
+    field_behind(list, a.at, fields)
 }

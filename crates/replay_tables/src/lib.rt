@@ -1,104 +1,93 @@
-// What a line of oracle/lists/rows.txt asks of a reading, for try_lookup: its tables are changed, rows and a flat table are built of them, and each item
-// is noted.
+// What a line of oracle/lists/rows.txt asks of a reading, for try_lookup: its tables are changed, rows and a flat
+// table are built of them, and each item is noted.
 #![tactic(auto)]
 
+use hold::Reading;
 use paper::Counts;
-use replay_line::change::Change;
-use replay_line::{change, tally};
+use replay::front;
+use replay_line::change::{self, Change};
+use replay_line::tables::{Rows, Tables};
+use replay_line::tally::Tally;
 use replay_lookup::{lookups, numbers};
 use replay_rows::rows::{Asked, FILL16, FILL32};
 use replay_rows::{flats, rows};
 use std::io;
 
-// The lookups of a line, over tables that are lent as long as they were built, but for one that the line cuts.
-fn looked<'a>(
-    rt: &impl Print,
-    list: &[u8],
-    at: usize,
-    a: Asked,
-    f: Asked,
-    c: Change,
-    index: &[u32],
-    flat: &'a [u16],
-    boundaries: &[u32],
-    starts: &[u32],
-    lengths: &[u16],
-    pool: &'a [u16],
-    number: u64,
-    tally: &mut [u64],
-) -> io::Result<usize> {
-    lookups::noted(
-        rt,
-        list,
-        at,
-        change::part32(index, change::length(change::INDEX, f.rows, c)),
-        change::part16(flat, change::length(change::FLAT, f.places, c)),
-        change::part32(boundaries, change::length(change::BOUNDARIES, a.rows, c)),
-        change::part32(starts, change::length(change::STARTS, a.rows, c)),
-        change::part16(lengths, change::length(change::LENGTHS, a.rows, c)),
-        change::part16(pool, change::length(change::POOL, a.places, c)),
-        c.kind != 0,
-        number,
-        tally,
-    )
+// Tables as they are lent: as long as they were built, but for one that the line cuts.
+fn lent<'a>(t: Tables<'a>, a: Asked, f: Asked, c: Option<Change>) -> Tables<'a> {
+    Tables {
+        index: front(t.index, change::length(change::INDEX, f.rows, c)),
+        flat: front(t.flat, change::length(change::FLAT, f.places, c)),
+        rows: Rows {
+            boundaries: front(
+                t.rows.boundaries,
+                change::length(change::BOUNDARIES, a.rows, c),
+            ),
+            starts: front(t.rows.starts, change::length(change::STARTS, a.rows, c)),
+            lengths: front(t.rows.lengths, change::length(change::LENGTHS, a.rows, c)),
+            pool: front(t.rows.pool, change::length(change::POOL, a.places, c)),
+        },
+    }
 }
 
-fn put_rows(
-    boundaries: &mut [u32],
-    starts: &mut [u32],
-    lengths: &mut [u16],
-    pool: &mut [u16],
-    c: Change,
-) {
-    change::put32(boundaries, change::BOUNDARIES, c);
-    change::put32(starts, change::STARTS, c);
-    change::put16(lengths, change::LENGTHS, c);
-    change::put16(pool, change::POOL, c);
+fn put32(room: &mut [u32], which: usize, c: Option<Change>) {
+    change::put(room, which, c, |n| (n % 4294967296) as u32);
 }
 
-fn put_flat(index: &mut [u32], flat: &mut [u16], c: Change) {
-    change::put32(index, change::INDEX, c);
-    change::put16(flat, change::FLAT, c);
+fn put16(room: &mut [u16], which: usize, c: Option<Change>) {
+    change::put(room, which, c, |n| (n % 65536) as u16);
 }
 
-// The flat table of a line, where it has one, and then the change of what was built.
+// The flat table of a line, where it has one, then the change of what was built, and the lookups.
 fn flatted(
     rt: &impl Print,
     list: &[u8],
     at: usize,
     a: Asked,
-    reading: &[u8],
-    counts: Counts,
-    c: Change,
+    reading: &Reading,
+    c: Option<Change>,
     boundaries: &mut [u32],
     starts: &mut [u32],
     lengths: &mut [u16],
     pool: &mut [u16],
     number: u64,
-    tally: &mut [u64],
+    tally: &mut Tally,
 ) -> io::Result<usize> {
     let mut index = flats::index_room();
     let mut flat = flats::pool_room();
     let f = flats::asked_at(list, at);
+    let damaged = c.is_some();
     let next = flats::noted(
-        rt, list, f, reading, counts, c, &mut index, &mut flat, number, tally,
+        rt, list, f, reading, damaged, &mut index, &mut flat, number, tally,
     )?;
-    put_rows(boundaries, starts, lengths, pool, c);
-    put_flat(&mut index, &mut flat, c);
-    looked(
-        rt, list, next, a, f, c, &index, &flat, boundaries, starts, lengths, pool, number, tally,
-    )
+    put32(boundaries, change::BOUNDARIES, c);
+    put32(starts, change::STARTS, c);
+    put16(lengths, change::LENGTHS, c);
+    put16(pool, change::POOL, c);
+    put32(&mut index, change::INDEX, c);
+    put16(&mut flat, change::FLAT, c);
+    let rows = Rows {
+        boundaries,
+        starts,
+        lengths,
+        pool,
+    };
+    let built = Tables {
+        index: &index,
+        flat: &flat,
+        rows,
+    };
+    lookups::noted(rt, list, next, lent(built, a, f, c), damaged, number, tally)
 }
 
 fn rowed(
     rt: &impl Print,
     list: &[u8],
     at: usize,
-    reading: &[u8],
-    counts: Counts,
-    c: Change,
+    reading: &Reading,
+    c: Option<Change>,
     number: u64,
-    tally: &mut [u64],
+    tally: &mut Tally,
 ) -> io::Result<usize> {
     let mut boundaries = [FILL32; rows::ROWS];
     let mut starts = [FILL32; rows::ROWS];
@@ -109,21 +98,18 @@ fn rowed(
         list,
         a,
         reading,
-        counts,
-        c,
         &mut boundaries,
         &mut starts,
         &mut lengths,
         &mut pool,
     );
-    tally::note(rt, tally, list, at, number, c.kind != 0, agreed)?;
+    tally.note(rt, list, at, number, c.is_some(), agreed)?;
     flatted(
         rt,
         list,
         rows::behind(list, a),
         a,
         reading,
-        counts,
         c,
         &mut boundaries,
         &mut starts,
@@ -142,22 +128,11 @@ pub fn handed(
     counts: Counts,
     reading: &mut [u8],
     number: u64,
-    tally: &mut [u64],
+    tally: &mut Tally,
 ) -> io::Result<usize> {
-    let c = change::change_at(list, at);
+    let (c, first) = change::change_at(list, at);
     change::damage(reading, c);
-    let handed = change::counted(counts, c);
-    let next = numbers::noted(
-        rt,
-        list,
-        c.next,
-        change::table(reading, 0, 0, change::NAMES, c),
-        change::table(reading, 1, change::CATEGORIES_AT, change::CATEGORIES, c),
-        change::table(reading, 2, change::DEFINITIONS_AT, change::DEFINITIONS, c),
-        handed,
-        c.kind != 0,
-        number,
-        tally,
-    )?;
-    rowed(rt, list, next, reading, handed, c, number, tally)
+    let handed = change::handed(reading, counts, c);
+    let next = numbers::noted(rt, list, first, &handed, c.is_some(), number, tally)?;
+    rowed(rt, list, next, &handed, c, number, tally)
 }

@@ -1,47 +1,33 @@
-// Replays oracle/lists/packs.txt over the pack's reader: packs written and read by a second hand from the paper's words, each limit and one
-// more, every rule broken at every kind of field, cuts and damage, rooms one byte short. oracle/README.md has the list's form. Every room is
-// lent with bytes behind its size, and all of them are looked at afterwards. What is accepted goes through the pack writer, too.
+// Replays oracle/lists/packs.txt over the pack's reader: packs written and read by a second hand from the paper's
+// words, each limit and one more, every rule broken at every kind of field, cuts and damage, rooms one byte short.
+// oracle/README.md has the list's form. Every room is lent with bytes behind its size, and all of them are looked at
+// afterwards. What is accepted goes through the pack writer, too.
 #![tactic(auto)]
 
 mod writer;
 
-use paper::{Counts, Outcome};
+use hold::Reading;
 use replay::items::Reader;
-use replay::rooms::{CATEGORIES, DEFINITIONS, FILL, NAMES, RANGES, REFERENCES};
-use replay::tally::Tally;
+use replay::rooms::{self, CATEGORIES, DEFINITIONS, FILL, NAMES, RANGES, REFERENCES, SUM_FIELD};
 use std::io;
 
 const LIST_ROOM: usize = 524288;
 
-const TEXT_ROOM: usize = 73728;
-
 const BASE_ROOM: usize = 40960;
 
-// The counts of a pack that is accepted.
-fn counts_of(answer: &Outcome) -> Option<Counts> {
-    match answer {
-        Outcome::Refused(_) => None,
-        Outcome::Accepted(counts) => Some(*counts),
-    }
-}
-
-// The reader's answer and what it leaves in rooms that are filled, and longer than the sizes.
-fn agrees(
-    list: &[u8],
-    at: usize,
-    pack: &[u8],
-    short: usize,
-    names: &mut [u8],
-    categories: &mut [u8],
-    definitions: &mut [u8],
-    ranges: &mut [u8],
-    references: &mut [u8],
-) -> bool {
-    let a = replay::rooms::lent(names, 0, short);
-    let b = replay::rooms::lent(categories, 1, short);
-    let c = replay::rooms::lent(definitions, 2, short);
-    let d = replay::rooms::lent(ranges, 3, short);
-    let e = replay::rooms::lent(references, 4, short);
+// The reader's answer and what it leaves in rooms that are filled, and longer than the sizes; and the pack that the
+// writer makes of it.
+fn tried(list: &[u8], at: usize, pack: &[u8], short: Option<usize>) -> bool {
+    let mut names = [FILL; NAMES];
+    let mut categories = [FILL; CATEGORIES];
+    let mut definitions = [FILL; DEFINITIONS];
+    let mut ranges = [FILL; RANGES];
+    let mut references = [FILL; REFERENCES];
+    let a = rooms::lent(&names, 0, short);
+    let b = rooms::lent(&categories, 1, short);
+    let c = rooms::lent(&definitions, 2, short);
+    let d = rooms::lent(&ranges, 3, short);
+    let e = rooms::lent(&references, 4, short);
     let answer = pack::read_pack(
         pack,
         &mut names[..a],
@@ -50,44 +36,22 @@ fn agrees(
         &mut ranges[..d],
         &mut references[..e],
     );
-    let accepted = counts_of(&answer);
-    if !replay::rooms::answer_agrees(list, at, answer) {
+    let left: [&[u8]; 5] = [&names, &categories, &definitions, &ranges, &references];
+    if !rooms::answer_agrees(list, at, answer) || !rooms::rooms_agree(list, at, SUM_FIELD, &left) {
         return false;
     }
-    if !replay::rooms::rooms_agree(list, at, names, categories, definitions, ranges, references) {
-        return false;
-    }
-    match accepted {
-        None => true,
-        Some(counts) => writer::writes_back(
-            names,
-            categories,
-            definitions,
-            ranges,
-            references,
-            counts,
-            pack,
-        ),
-    }
-}
-
-fn tried(list: &[u8], at: usize, pack: &[u8], short: usize) -> bool {
-    let mut names = [FILL; NAMES];
-    let mut categories = [FILL; CATEGORIES];
-    let mut definitions = [FILL; DEFINITIONS];
-    let mut ranges = [FILL; RANGES];
-    let mut references = [FILL; REFERENCES];
-    agrees(
-        list,
-        at,
-        pack,
-        short,
-        &mut names,
-        &mut categories,
-        &mut definitions,
-        &mut ranges,
-        &mut references,
-    )
+    let Ok(counts) = answer else {
+        return true;
+    };
+    let reading = Reading {
+        names: &names,
+        categories: &categories,
+        definitions: &definitions,
+        ranges: &ranges,
+        references: &references,
+        counts,
+    };
+    writer::writes_back(&reading, pack)
 }
 
 // What a line asks behind its text: what the reader says of it, or what the writer makes of its tables.
@@ -98,56 +62,16 @@ fn answered(list: &[u8], r: Reader, pack: &[u8]) -> bool {
     }
 }
 
-// A base asks nothing.
-fn asked(
-    rt: &impl Print,
-    t: Tally,
-    list: &[u8],
-    r: Reader,
-    text: &[u8],
-    number: u64,
-) -> io::Result<Tally> {
-    let size = r.size;
-    if replay::byte_at(list, r.at) == b'b' {
-        return Ok(t);
-    }
-    if text.len() < size {
-        return replay::tally::noted(rt, t, false, number);
-    }
-    replay::tally::noted(rt, t, answered(list, r, &text[..size]), number)
-}
-
-fn replay_all(rt: &impl Print, list: &[u8]) -> io::Result<Tally> {
-    let mut text = [0u8; TEXT_ROOM];
-    let mut base = [0u8; BASE_ROOM];
-    let mut t = Tally {
-        agreed: 0,
-        differ: 0,
-    };
-    let mut kept = 0;
-    let mut at = 0;
-    let mut number: u64 = 0;
-    let mut left = list.len();
-    while 0 < left {
-        left -= 1;
-        if at < list.len() {
-            number = std::num::wrapping_add_u64(number, 1);
-            let r = replay::items::built(list, at, kept, &mut text, &mut base);
-            kept = r.base;
-            t = asked(rt, t, list, r, &text, number)?;
-            at = replay::next_line(list, at);
-        }
-    }
-    Ok(t)
-}
-
 fn list_room() -> [u8; LIST_ROOM] {
     [0; LIST_ROOM]
 }
 
 fn main(rt: HostRuntime) -> io::Result<()> {
     let mut room = list_room();
+    let mut base = [0u8; BASE_ROOM];
     let n = replay::input::read_full(&mut rt.reader(), &mut room)?;
-    let t = replay_all(&rt, &room[..n])?;
-    replay::tally::say(&rt, t)
+    let t = replay::texts::replay_texts(&rt, &room[..n], &mut base, |list, r, pack| {
+        answered(list, r, pack)
+    })?;
+    t.say(&rt)
 }

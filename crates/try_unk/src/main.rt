@@ -1,19 +1,22 @@
-// Replays oracle/lists/unk.txt over the reader of unk.def and its lookups: the Rust's entries, references, offsets and details, the paper's limits,
-// rooms one byte short, and tables handed in that don't hold together. oracle/README.md has the list's form.
+// Replays oracle/lists/unk.txt over the reader of unk.def and its lookups: the Rust's entries, references, offsets
+// and details, the paper's limits, rooms one byte short, and tables handed in that don't hold together.
+// oracle/README.md has the list's form.
 #![tactic(auto)]
 
 mod handed;
 mod left;
 mod lookups;
 
-use handed::Handed;
-use left::{DETAILS, ENTRIES, MEMBERS, OFFSETS, PLACES};
-use paper::{Counts, Outcome};
-use replay::items::Reader;
-use replay::rooms::FILL;
+use hold::Reading;
+use left::{DETAILS, ENTRIES, MEMBERS, OFFSETS, PLACES, SUM_FIELD};
+use lookups::Left;
+use paper::Counts;
+use replay::items::{self, Reader};
+use replay::lines::each_line;
+use replay::rooms::{self, CATEGORIES, DEFINITIONS, FILL, NAMES, RANGES, REFERENCES};
 use replay::tally::Tally;
+use replay::{byte_at, front};
 use std::io;
-use unk::UnkOutcome;
 
 const LIST_ROOM: usize = 524288;
 
@@ -21,129 +24,45 @@ const TEXT_ROOM: usize = 73728;
 
 const BASE_ROOM: usize = 4096;
 
-// How many entries a text that is accepted has.
-fn entries_of(answer: &UnkOutcome) -> Option<usize> {
-    match answer {
-        UnkOutcome::Refused(_) => None,
-        UnkOutcome::Accepted(c) => Some(c.entries),
-    }
-}
-
-// The answer, what the reader leaves in the rooms, and what lookups find there where the text is accepted.
-fn left_agrees(
-    list: &[u8],
-    at: usize,
-    categories: usize,
-    answer: UnkOutcome,
-    entries: &[u8],
-    offsets: &[u8],
-    details: &[u8],
-    places: &[u8],
-    members: &[u8],
-) -> bool {
-    let accepted = entries_of(&answer);
-    if !left::answer_agrees(list, at, answer) {
-        return false;
-    }
-    if !left::rooms_agree(list, at, entries, offsets, details, places, members) {
-        return false;
-    }
-    match accepted {
-        None => true,
-        Some(count) => lookups::agree(
-            list,
-            left::behind_answer(list, at),
-            categories,
-            count,
-            entries,
-            offsets,
-            details,
-            places,
-            members,
-        ),
-    }
-}
-
-// The reader's answer over rooms that are longer than the sizes, but for one that may be short.
-fn answered<'a>(
-    text: &[u8],
-    short: usize,
-    counts: Counts,
-    names: &'a [u8],
-    categories: &'a [u8],
-    definitions: &'a [u8],
-    ranges: &'a [u8],
-    references: &'a [u8],
-    entries: &mut [u8],
-    offsets: &mut [u8],
-    details: &mut [u8],
-    places: &mut [u8],
-    members: &mut [u8],
-) -> UnkOutcome {
-    let a = replay::rooms::lent(entries, 0, short);
-    let b = replay::rooms::lent(offsets, 1, short);
-    let c = replay::rooms::lent(details, 2, short);
-    let d = replay::rooms::lent(places, 3, short);
-    let e = replay::rooms::lent(members, 4, short);
-    unk::parse_unk(
-        names,
-        categories,
-        definitions,
-        ranges,
-        references,
-        counts,
+// The reader's answer over rooms that are longer than the sizes, but for one that may be short; what it leaves in the
+// rooms, and what lookups find there where the text is accepted.
+fn read(list: &[u8], at: usize, text: &[u8], short: Option<usize>, reading: &Reading) -> bool {
+    let mut entries = [FILL; ENTRIES];
+    let mut offsets = [FILL; OFFSETS];
+    let mut details = [FILL; DETAILS];
+    let mut places = [FILL; PLACES];
+    let mut members = [FILL; MEMBERS];
+    let a = rooms::lent(&entries, 0, short);
+    let b = rooms::lent(&offsets, 1, short);
+    let c = rooms::lent(&details, 2, short);
+    let d = rooms::lent(&places, 3, short);
+    let e = rooms::lent(&members, 4, short);
+    let answer = unk::parse_unk(
+        reading,
         text,
         &mut entries[..a],
         &mut offsets[..b],
         &mut details[..c],
         &mut places[..d],
         &mut members[..e],
-    )
-}
-
-fn read<'a>(
-    list: &[u8],
-    text: &[u8],
-    short: usize,
-    h: Handed,
-    names: &'a [u8],
-    categories: &'a [u8],
-    definitions: &'a [u8],
-    ranges: &'a [u8],
-    references: &'a [u8],
-) -> bool {
-    let counts = h.counts;
-    let mut entries = [FILL; ENTRIES];
-    let mut offsets = [FILL; OFFSETS];
-    let mut details = [FILL; DETAILS];
-    let mut places = [FILL; PLACES];
-    let mut members = [FILL; MEMBERS];
-    let answer = answered(
-        text,
-        short,
-        counts,
-        names,
-        categories,
-        definitions,
-        ranges,
-        references,
-        &mut entries,
-        &mut offsets,
-        &mut details,
-        &mut places,
-        &mut members,
     );
-    left_agrees(
-        list,
-        h.at,
-        counts.categories,
-        answer,
-        &entries,
-        &offsets,
-        &details,
-        &places,
-        &members,
-    )
+    let rooms: [&[u8]; 5] = [&entries, &offsets, &details, &places, &members];
+    if !left::answer_agrees(list, at, answer) || !rooms::rooms_agree(list, at, SUM_FIELD, &rooms) {
+        return false;
+    }
+    let Ok(found) = answer else {
+        return true;
+    };
+    let tables = Left {
+        categories: reading.counts.categories,
+        count: found.entries,
+        entries: &entries,
+        offsets: &offsets,
+        details: &details,
+        places: &places,
+        members: &members,
+    };
+    lookups::agree(list, left::behind_answer(list, at), tables)
 }
 
 // The text is read over the reading's tables, as the line changes them.
@@ -151,7 +70,7 @@ fn read_over(
     list: &[u8],
     at: usize,
     text: &[u8],
-    short: usize,
+    short: Option<usize>,
     counts: Counts,
     names: &mut [u8],
     categories: &mut [u8],
@@ -169,110 +88,84 @@ fn read_over(
         ranges,
         references,
     );
-    let a = handed::least(names, h.names);
-    let b = handed::least(categories, h.categories);
-    let c = handed::least(definitions, h.definitions);
-    let d = handed::least(ranges, h.ranges);
-    let e = handed::least(references, h.references);
-    read(
-        list,
-        text,
-        short,
-        h,
-        &names[..a],
-        &categories[..b],
-        &definitions[..c],
-        &ranges[..d],
-        &references[..e],
-    )
+    let reading = Reading {
+        names: front(names, h.sizes[0]),
+        categories: front(categories, h.sizes[1]),
+        definitions: front(definitions, h.sizes[2]),
+        ranges: front(ranges, h.sizes[3]),
+        references: front(references, h.sizes[4]),
+        counts: h.counts,
+    };
+    read(list, h.at, text, short, &reading)
 }
 
-fn tried(list: &[u8], at: usize, text: &[u8], short: usize, char_def: &[u8]) -> bool {
-    let mut names = [0u8; handed::NAMES];
-    let mut categories = [0u8; handed::CATEGORIES];
-    let mut definitions = [0u8; handed::DEFINITIONS];
-    let mut ranges = [0u8; handed::RANGES];
-    let mut references = [0u8; handed::REFERENCES];
-    match char_def::parse(
+fn tried(list: &[u8], at: usize, text: &[u8], short: Option<usize>, char_def: &[u8]) -> bool {
+    let mut names = [0u8; NAMES];
+    let mut categories = [0u8; CATEGORIES];
+    let mut definitions = [0u8; DEFINITIONS];
+    let mut ranges = [0u8; RANGES];
+    let mut references = [0u8; REFERENCES];
+    let Ok(counts) = char_def::parse(
         char_def,
         &mut names,
         &mut categories,
         &mut definitions,
         &mut ranges,
         &mut references,
-    ) {
-        Outcome::Refused(_) => false,
-        Outcome::Accepted(counts) => read_over(
-            list,
-            at,
-            text,
-            short,
-            counts,
-            &mut names,
-            &mut categories,
-            &mut definitions,
-            &mut ranges,
-            &mut references,
-        ),
-    }
+    ) else {
+        return false;
+    };
+    read_over(
+        list,
+        at,
+        text,
+        short,
+        counts,
+        &mut names,
+        &mut categories,
+        &mut definitions,
+        &mut ranges,
+        &mut references,
+    )
 }
 
-// What a line's text is for: a base and a char.def ask nothing.
+// What a line's text is for: a base asks nothing, and a char.def is kept for the lines behind it; how long it is from
+// here on.
 fn asked(
     rt: &impl Print,
-    t: Tally,
+    t: &mut Tally,
     list: &[u8],
     r: Reader,
     text: &[u8],
-    char_def: &[u8],
+    char_def: &mut [u8],
+    size: usize,
     number: u64,
-) -> io::Result<Tally> {
-    let n = handed::least(text, r.size);
-    match replay::byte_at(list, r.at) {
-        b'b' => Ok(t),
-        b'c' => Ok(t),
-        _ => replay::tally::noted(
-            rt,
-            t,
-            tried(list, r.at, &text[..n], r.short, char_def),
-            number,
-        ),
+) -> io::Result<usize> {
+    match byte_at(list, r.at) {
+        b'b' => Ok(size),
+        b'c' => Ok(items::keep(text, char_def)),
+        _ => {
+            let agreed = tried(list, r.at, text, r.short, front(char_def, size));
+            t.note(rt, agreed, number)?;
+            Ok(size)
+        }
     }
-}
-
-// How long the char.def is from here on.
-fn kept_char_def(list: &[u8], r: Reader, text: &[u8], char_def: &mut [u8], size: usize) -> usize {
-    if replay::byte_at(list, r.at) != b'c' {
-        return size;
-    }
-    replay::items::keep(text, r.size, char_def)
 }
 
 fn replay_all(rt: &impl Print, list: &[u8]) -> io::Result<Tally> {
     let mut text = [0u8; TEXT_ROOM];
     let mut base = [0u8; BASE_ROOM];
     let mut char_def = [0u8; TEXT_ROOM];
-    let mut t = Tally {
-        agreed: 0,
-        differ: 0,
-    };
+    let mut t = Tally::default();
     let mut kept = 0;
     let mut size = 0;
-    let mut at = 0;
-    let mut number: u64 = 0;
-    let mut left = list.len();
-    while 0 < left {
-        left -= 1;
-        if at < list.len() {
-            number = std::num::wrapping_add_u64(number, 1);
-            let r = replay::items::built(list, at, kept, &mut text, &mut base);
-            kept = r.base;
-            size = kept_char_def(list, r, &text, &mut char_def, size);
-            let n = handed::least(&char_def, size);
-            t = asked(rt, t, list, r, &text, &char_def[..n], number)?;
-            at = replay::next_line(list, at);
-        }
-    }
+    each_line(list, 0, |at, number| {
+        let r = items::built(list, at, kept, &mut text, &mut base);
+        kept = r.base;
+        let part = front(&text, r.size);
+        size = asked(rt, &mut t, list, r, part, &mut char_def, size, number)?;
+        Ok(())
+    })?;
     Ok(t)
 }
 
@@ -284,5 +177,5 @@ fn main(rt: HostRuntime) -> io::Result<()> {
     let mut room = list_room();
     let n = replay::input::read_full(&mut rt.reader(), &mut room)?;
     let t = replay_all(&rt, &room[..n])?;
-    replay::tally::say(&rt, t)
+    t.say(&rt)
 }
