@@ -1,2 +1,2 @@
--- The law that the proofs share.
-pub mod Zeros
+-- The laws that the proofs share.
+pub mod Width
