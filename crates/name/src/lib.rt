@@ -15,12 +15,15 @@ pub struct Numbered {
     pub bytes: usize,
 }
 
-// Copies the text from `start` to `end` into the store.
+// Copies the text from `start` to `end` into the store. Byte by byte: `copy_from_slice` has the archive for C ask for memmove besides.
 fn copy_in(names: &mut [u8], at: usize, text: &[u8], start: usize, end: usize)
     requires { (start ≤ end) × ((end ≤ length text.now) × (at + (end - start) ≤ length names.old)) }
     ensures { names.new ≡ patch at (drop start (take end text.now)) names.old }
 {
-    names[at..at + (end - start)].copy_from_slice(&text[start..end]);
+    let len = end - start;
+    for i in 0..len {
+        names[at + i] = text[start + i];
+    }
 }
 
 // The number of the name that stands in the text from `start` to `end`; a new name is entered behind the others. 12 before 13, as numbers: `Enters` gives

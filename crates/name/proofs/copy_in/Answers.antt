@@ -1,12 +1,15 @@
--- `name::copy_in` meets its contract. Assumes nothing.
-use Rattle.std.proofs.Common.{◌∙◌, take, drop, arith}
-use Rattle.std.proofs.lemmas.Slice.{between_is}
-use Rattle.paper.proofs.Lists.Parts.{part_length}
-use Rattle.name.proofs.Copy.{copied}
+use native.Mathlib.Omega.{arith}
+use Rattle.name.proofs.Copy.{copy_start, copy_on, copy_done}
 use Rattle.name.proofs.copy_in.Goals as goal
 
+pub loop-i-init : goal.loop-i-init
+loop-i-init c = (omega arith, copy_start _ _ _ _ _ (omega arith) (omega arith))
+
+pub loop-i-preserved : goal.loop-i-preserved
+loop-i-preserved c = (omega arith, copy_on c.loop-i.invariant.1 (omega arith))
+
+pub shape_of-names : goal.shape_of-names
+shape_of-names c = c.loop-i.invariant.1.long
+
 pub returns : goal.returns
-returns c =
-    let a = c.args in
-    let k = part_length a.text.now a.start a.end (omega arith) in
-    copied a.at _ a.names.now _ (drop a.start (take a.end a.text.now)) (c.copy_from_slice.ensures.after ∙ between_is a.text.now a.start a.end) (omega arith) (omega arith)
+returns c = copy_done c.loop-i.invariant.1 (omega arith)
