@@ -7,14 +7,14 @@ use mathlib.Core.Path.{◌≡◌, refl, sym, ap, ap₂, ◌∙◌}
 use mathlib.Core.Bool.{Bool, true, false, not, ◌||◌}
 use mathlib.Core.List.{List, [], ◌∷◌, map}
 use lib.ListN.{length, take, drop, length-take, length-drop}
-use lib.Seq.{take_all}
+use lib.Seq.{take_all, length-take-le}
 use borrow.Author.Tests.{lt-ltb, le-ltb, ltb-false}
 use Rattle.paper.specs.Lists.{any, same}
 use Rattle.paper.specs.Tables.Layout.{name_slot_size}
 use Rattle.paper.specs.Rows.Numbers.{name_slots_of, name_in, past_store}
 use Rattle.paper.specs.Tables.Layout.{NameSlot, name_slot_of}
-use Rattle.paper.specs.Tables.Lent.{got}
-use Rattle.paper.proofs.Tables.Laws.{left, left_all, left_none, left_more}
+use Rattle.paper.specs.Tables.Lent.{num, got}
+use Rattle.paper.proofs.Tables.Laws.{got_in, left, left_all, left_none, left_more}
 use Rattle.table_rules.proofs.Turn.{entry}
 use Rattle.table_rules.proofs.Entries.{first_got, field_got, inside}
 use Rattle.seek.specs.Finds.{Finds}
@@ -53,6 +53,25 @@ module _ (l : List ℕ) (n i : ℕ) (lt : i < n) where
 
     len_is : (len : ℕ) → len ≡ got 2 (name_slot_size * i + 2) l → len ≡ (slot_at l i).len
     len_is len e = e ∙ field_got 2 2 name_slot_size i l (omega arith) (inside name_slot_size i n l lt long)
+
+-- a slot by itself, as a slice has it, and what is read of it
+module _ (l : List ℕ) (n i : ℕ) (lt : i < n) (long : name_slot_size * n ≤ length l) where
+  abbrev slot_slice : List ℕ
+  slot_slice = take (name_slot_size * i + name_slot_size - name_slot_size * i) (drop (name_slot_size * i) l)
+
+  in_slice : (k : ℕ) → k + 2 ≤ name_slot_size → got 2 k slot_slice ≡ num 2 k (entry name_slot_size i l)
+  in_slice k h =
+      let w : name_slot_size * i + name_slot_size - name_slot_size * i ≡ name_slot_size = omega arith in
+      let there = inside name_slot_size i n l lt long in
+      let d : length (drop (name_slot_size * i) l) ≡ length l - name_slot_size * i = length-drop (name_slot_size * i) l in
+      let e : length (entry name_slot_size i l) ≡ name_slot_size = length-take-le name_slot_size (drop (name_slot_size * i) l) (omega arith) in
+      ap (λ m. got 2 k (take m (drop (name_slot_size * i) l))) w ∙ got_in 2 k (entry name_slot_size i l) (omega arith)
+
+  pub start_read : got 2 0 slot_slice ≡ got 2 (name_slot_size * i) l
+  start_read = in_slice 0 (omega arith) ∙ sym (first_got 2 name_slot_size i l (omega arith) (inside name_slot_size i n l lt long))
+
+  pub len_read : got 2 2 slot_slice ≡ got 2 (name_slot_size * i + 2) l
+  len_read = in_slice 2 (omega arith) ∙ sym (field_got 2 2 name_slot_size i l (omega arith) (inside name_slot_size i n l lt long))
 
 -- ---- does a name run past the store?
 

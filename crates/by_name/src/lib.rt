@@ -27,7 +27,8 @@ fn names_inside(names: &[u8], categories: &[u8], count: usize) -> bool
     true
 }
 
-// The lowest number with that name, where no category's name runs past the store.
+// The lowest number with that name, where no category's name runs past the store. Each slot is read by itself, so that no look asks again whether it
+// lies in the table.
 fn find_placed(names: &[u8], categories: &[u8], count: usize, name: &[u8]) -> Option<usize>
     requires count_in_bounds { name_slot_size * count ≤ length categories.now }
     requires count_value { any (past_store names.now) (name_slots_of categories.now count) ≡ false }
@@ -35,9 +36,10 @@ fn find_placed(names: &[u8], categories: &[u8], count: usize, name: &[u8]) -> Op
 {
     for i in 0..count {
         let at = CATEGORY_BYTES * i;
-        let len = usize::from(table::get_u16(categories, at + NAME_LENGTH_AT));
+        let slot = &categories[at..at + CATEGORY_BYTES];
+        let len = usize::from(table::get_u16(slot, NAME_LENGTH_AT));
         if len == name.len() {
-            let start = usize::from(table::get_u16(categories, at));
+            let start = usize::from(table::get_u16(slot, 0));
             if seek::holds_at(names, start, name, 0, len) {
                 return Some(i);
             }
