@@ -2,8 +2,7 @@
 // one is 26. What the lookup of categories needs besides stands here too: which numbers are scalar values, and how a flat entry is put together.
 #![tactic(auto)]
 
-ghost use Rattle.std.specs.Prelude.{◌≡◌, true, ◌<◌};
-ghost use Rattle.paper.specs.Sizes.{bmp_size};
+ghost use Rattle.std.specs.Prelude.{◌≡◌};
 ghost use Rattle.paper.specs.Text.Scalar.{is_scalar};
 ghost use Rattle.paper.specs.Rows.Lookup.{packed_at};
 ghost use Rattle.packed.specs.Entries.{packed, category_in, category};
@@ -41,35 +40,21 @@ pub fn is_scalar(c: u32) -> bool
     c < FIRST_SURROGATE || LAST_SURROGATE < c && c <= LAST_SCALAR
 }
 
-// The part of the flat pool that the index names for a scalar value of the BMP; absent with an empty index.
-#[tactic(auto, unfolding(paper::specs::Rows::Lookup::packed_at))]
-fn packed_in(flat_index: &[u32], c: u32) -> Result<Option<Packed>, Refusal>
-    requires { (is_scalar c ≡ true) × (c < bmp_size) }
-    ensures { result ≡ packed (packed_at flat_index.now c) }
-{
-    if flat_index.is_empty() {
-        return Ok(None);
-    }
-    let Some(&entry) = flat_index.get(c as usize) else {
-        return Err(Refusal {
-            number: TABLES_APART,
-            place: 0,
-        });
-    };
-    Ok(Some(Packed {
-        offset: entry / OFFSET_UNIT,
-        len: (entry % OFFSET_UNIT) as u16,
-    }))
-}
-
-// The part of the flat pool that holds the categories of a code point; absent beyond the BMP or with an empty index. What stands below the surrogates,
-// as most characters do, needs no other test.
+// The part of the flat pool that holds the categories of a code point; absent beyond the BMP or with an empty index. An entry that is there comes before
+// what is asked of the others, and what stands below the surrogates, as most characters do, needs no other test.
 #[tactic(auto, unfolding(paper::specs::Rows::Lookup::packed_at))]
 pub fn lookup_categories_packed(flat_index: &[u32], c: u32) -> Result<Option<Packed>, Refusal>
     ensures { result ≡ packed (packed_at flat_index.now c) }
 {
-    if c < FIRST_SURROGATE {
-        return packed_in(flat_index, c);
+    let at = c as usize;
+    if c < FIRST_SURROGATE || LAST_SURROGATE < c && at < BMP_SIZE {
+        if at < flat_index.len() {
+            let entry = flat_index[at];
+            return Ok(Some(Packed {
+                offset: entry / OFFSET_UNIT,
+                len: (entry % OFFSET_UNIT) as u16,
+            }));
+        }
     }
     if !is_scalar(c) {
         return Err(Refusal {
@@ -77,11 +62,13 @@ pub fn lookup_categories_packed(flat_index: &[u32], c: u32) -> Result<Option<Pac
             place: 0,
         });
     }
-    let at = c as usize;
-    if BMP_SIZE <= at {
+    if flat_index.is_empty() || BMP_SIZE <= at {
         return Ok(None);
     }
-    packed_in(flat_index, c)
+    Err(Refusal {
+        number: TABLES_APART,
+        place: 0,
+    })
 }
 
 // One category of the flat pool, for whoever keeps a packed part.
