@@ -29,7 +29,7 @@ pub fn used_by(rows: Result<RowCounts, Refusal>, flat: Result<usize, Refusal>) -
 }
 
 fn is_left<T: PartialEq + Copy>(room: &[T], used: usize, fill: T) -> bool {
-    room.iter().skip(used).all(|n| *n == fill)
+    room[least(room, used)..].iter().all(|n| *n == fill)
 }
 
 #[derive(Clone, Copy)]

@@ -80,7 +80,7 @@ fn put_numbered(
 // The base's bytes from a place up to another.
 fn put_part(base: &[u8], from: usize, to: usize, text: &mut [u8], size: usize) -> usize {
     let mut end = size;
-    for b in base.iter().take(to).skip(from) {
+    for b in base.get(from..to.min(base.len())).unwrap_or(b"") {
         end = put_byte(text, end, *b);
     }
     end

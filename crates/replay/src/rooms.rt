@@ -113,7 +113,7 @@ fn leaves_alone(number: u64) -> bool {
 
 // A room is as the item at a place says: left alone or zero where it refuses, the table where it has one, whose field
 // begins at `table`, and the guard always left alone.
-fn room_agrees(list: &[u8], at: usize, table: usize, room: &[u8]) -> bool {
+pub fn room_agrees(list: &[u8], at: usize, table: usize, room: &[u8]) -> bool {
     let (body, guard) = parted(room);
     if !is_all(guard, FILL) {
         return false;
@@ -126,8 +126,9 @@ fn room_agrees(list: &[u8], at: usize, table: usize, room: &[u8]) -> bool {
     }
 }
 
-// All rooms are as the item at a place says, which has the sum over them so many fields behind it.
+// All rooms are as the item at a place says, which has the sum over them so many fields behind it, but for a refusal.
 pub fn rooms_agree(list: &[u8], at: usize, sum_field: usize, rooms: &[&[u8]]) -> bool {
+    let refused = byte_at(list, at) == b'r';
     let said = field_behind(list, at, sum_field);
     let mut table = said;
     let mut sum = sums::START;
@@ -136,9 +137,11 @@ pub fn rooms_agree(list: &[u8], at: usize, sum_field: usize, rooms: &[&[u8]]) ->
         if !room_agrees(list, at, table, room) {
             return false;
         }
-        sum = sums::over(sum, parted(room).0);
+        if !refused {
+            sum = sums::over(sum, parted(room).0);
+        }
     }
-    byte_at(list, at) == b'r' || u64::from(sum) == hex_at(list, said)
+    refused || u64::from(sum) == hex_at(list, said)
 }
 
 // ---- the tables as a line hands them in

@@ -67,7 +67,10 @@ pub fn expected(refused: Option<u64>, attempt: usize, slices: usize, need: usize
 
 // Every number from a place on is as before the call.
 pub fn untouched<T: Copy + PartialEq>(room: &[T], from: usize, fill: T) -> bool {
-    room.iter().skip(from).all(|n| *n == fill)
+    room.get(from..)
+        .unwrap_or(&room[..0])
+        .iter()
+        .all(|n| *n == fill)
 }
 
 // As much of a room as can be touched, and as much behind it.

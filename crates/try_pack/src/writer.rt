@@ -17,7 +17,7 @@ const OUT_ROOM: usize = MAX_PACK_BYTES + GUARD;
 
 // Every byte from a place on is as before the call.
 fn is_untouched(out: &[u8], from: usize) -> bool {
-    out.iter().skip(from).all(|b| *b == FILL)
+    out.get(from..).unwrap_or(b"").iter().all(|b| *b == FILL)
 }
 
 // The refusal by this number, or the pack with nothing behind it.
