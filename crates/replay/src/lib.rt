@@ -44,7 +44,8 @@ fn rest_of<'a>(list: &'a [u8], at: usize) -> &'a [u8]
 
 // The field that begins at a place.
 pub fn field_at<'a>(list: &'a [u8], at: usize) -> Field<'a>
-    ensures { result.next ≤ length list.now }
+    ensures onward { result.next ≤ length list.now }
+    ensures inside { length result.text.now ≤ length list.now }
 {
     let rest = rest_of(list, at);
     match rest.iter().position(|b| is_gap(*b)) {
