@@ -101,7 +101,7 @@ pub fn damage(reading: &mut [u8], c: Option<Change>) {
 }
 
 // The change of a table that is built: its entry becomes what the new value gives.
-pub fn put<T: Copy, F: FnOnce(u64) -> T>(room: &mut [T], which: usize, c: Option<Change>, low: F)
+fn put<T: Copy, F: FnOnce(u64) -> T>(room: &mut [T], which: usize, c: Option<Change>, low: F)
     requires { F.IsAlwaysCallable low }
 {
     let Some(Change::Entry { table, at, value }) = c else {
@@ -113,6 +113,14 @@ pub fn put<T: Copy, F: FnOnce(u64) -> T>(room: &mut [T], which: usize, c: Option
     if let Some(entry) = room.get_mut(at) {
         *entry = low(value);
     }
+}
+
+pub fn put16(room: &mut [u16], which: usize, c: Option<Change>) {
+    put(room, which, c, |n| (n % 65536) as u16);
+}
+
+pub fn put32(room: &mut [u32], which: usize, c: Option<Change>) {
+    put(room, which, c, |n| (n % 4294967296) as u32);
 }
 
 // How long a table is lent that would be lent so long.
@@ -129,7 +137,7 @@ pub fn window<'a, T>(room: &'a [T], start: usize, n: usize) -> &'a [T] {
 }
 
 // A table of the reading as it is handed in.
-fn table<'a>(
+pub fn table<'a>(
     reading: &'a [u8],
     which: usize,
     start: usize,

@@ -30,14 +30,6 @@ fn lent<'a>(t: Tables<'a>, a: Asked, f: Asked, c: Option<Change>) -> Tables<'a> 
     }
 }
 
-fn put32(room: &mut [u32], which: usize, c: Option<Change>) {
-    change::put(room, which, c, |n| (n % 4294967296) as u32);
-}
-
-fn put16(room: &mut [u16], which: usize, c: Option<Change>) {
-    change::put(room, which, c, |n| (n % 65536) as u16);
-}
-
 // The flat table of a line, where it has one, then the change of what was built, and the lookups.
 fn flatted(
     rt: &impl Print,
@@ -60,12 +52,12 @@ fn flatted(
     let next = flats::noted(
         rt, list, f, reading, damaged, &mut index, &mut flat, number, tally,
     )?;
-    put32(boundaries, change::BOUNDARIES, c);
-    put32(starts, change::STARTS, c);
-    put16(lengths, change::LENGTHS, c);
-    put16(pool, change::POOL, c);
-    put32(&mut index, change::INDEX, c);
-    put16(&mut flat, change::FLAT, c);
+    change::put32(boundaries, change::BOUNDARIES, c);
+    change::put32(starts, change::STARTS, c);
+    change::put16(lengths, change::LENGTHS, c);
+    change::put16(pool, change::POOL, c);
+    change::put32(&mut index, change::INDEX, c);
+    change::put16(&mut flat, change::FLAT, c);
     let rows = Rows {
         boundaries,
         starts,
