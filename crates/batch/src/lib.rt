@@ -3,6 +3,7 @@
 #![tactic(auto)]
 
 ghost use Rattle.std.specs.Prelude.{◌≡◌, ◌≤◌, ◌<◌, ◌↔◌, All, IsTrue, MatchOption, length, take};
+ghost use Rattle.std.specs.List.{AllWithin, HoldsAt};
 ghost use Rattle.batch.specs.Kept.{IsFilled, IsKept};
 
 use std::io;
@@ -87,7 +88,7 @@ impl<'a> Used<'a> {
 
 // The first room that is not as it should be; none where all are.
 pub fn fault(rooms: &[Used], rest: u8) -> Option<usize>
-    ensures { MatchOption result (All (IsKept rest) rooms.now) (λ i. i < length rooms.now) }
+    ensures { MatchOption result (All (IsKept rest) rooms.now) (λ i. (i < length rooms.now) × (AllWithin (IsKept rest) rooms.now 0 i × HoldsAt (λ u. IsKept rest u → ⊥) rooms.now i)) }
 {
     rooms.iter().position(|u| !u.is_kept(rest))
 }
