@@ -8,7 +8,7 @@ ghost use Rattle.std.specs.Io.KnownBytes.{Keeps};
 use std::env::Env;
 use std::fmt::InlineText;
 use std::io;
-use std::io::{Print, Write};
+use std::io::{ErrorKind, Print, Write};
 
 // No argument that is read is longer; a path is shorter.
 pub const WORD_SIZE: usize = 4096;
@@ -63,6 +63,20 @@ impl<R: Print> Write for Output<'_, '_, R> {
             self.waiting = at + n;
         }
         Ok(n)
+    }
+
+    // Every error ends it. What waited is not kept where a flush fails, so that to write on behind one, as std does where a write was interrupted,
+    // would leave a hole in what is written. (a cursor: each turn goes on by as much as was taken)
+    fn write_all(&mut self, buf: &[u8]) -> io::Result<()> {
+        let mut rest = buf;
+        while !rest.is_empty() {
+            let n = self.write(rest)?;
+            if n == 0 {
+                return Err(io::Error::from(ErrorKind::WriteZero));
+            }
+            rest = &rest[n..];
+        }
+        Ok(())
     }
 
     // What waits is handed on, and waits no more even where it is not taken.
@@ -140,9 +154,13 @@ pub fn put_spelled(out: &mut impl Write, b: u8) -> io::Result<()> {
     out.write_all(&[b])
 }
 
+// In runs of bytes that stand for themselves, since the output is asked for room once a run.
 pub fn put_name(out: &mut impl Write, name: &[u8]) -> io::Result<()> {
-    for b in name {
-        put_spelled(out, *b)?;
+    for run in name.chunk_by(|a, b| !is_spelled(*a) && !is_spelled(*b)) {
+        match run {
+            [b] => put_spelled(out, *b)?,
+            _ => out.write_all(run)?,
+        }
     }
     Ok(())
 }

@@ -40,12 +40,11 @@ fn put_details(out: &mut impl Write, details: &[u8]) -> io::Result<()> {
     if details.is_empty() {
         return writeln!(out);
     }
-    write!(out, " ")?;
-    for b in details {
-        match *b {
-            NUL => write!(out, ",")?,
-            b => say::put_spelled(out, b)?,
-        }
+    let mut before = b" ";
+    for field in details.split(|b| *b == NUL) {
+        out.write_all(before)?;
+        say::put_name(out, field)?;
+        before = b",";
     }
     writeln!(out)
 }
