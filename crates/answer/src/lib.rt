@@ -33,14 +33,13 @@ pub fn answer<R: Env + ErrorStream + Files + Input>(
     reading: &Reading,
 ) -> Result<(), Stop> {
     match asked.command {
-        Command::Check => Ok(put_counts(rt, out, asked, reading)?),
-        Command::Show | Command::Unpack => {
+        Some(Command::Check) => Ok(put_counts(rt, out, asked, reading)?),
+        Some(Command::At) => by_row::put_rows(rt, out, asked, reading),
+        Some(Command::Pack) => save::save_pack(rt, out, asked, reading),
+        Some(Command::Unk) => show_unk::put_unk(rt, out, asked, reading),
+        Some(Command::Show | Command::Unpack | Command::Help) | None => {
             put_tables(out, reading)?;
             by_row::put_rows(rt, out, asked, reading)
         }
-        Command::At => by_row::put_rows(rt, out, asked, reading),
-        Command::Pack => save::save_pack(rt, out, asked, reading),
-        Command::Unk => show_unk::put_unk(rt, out, asked, reading),
-        Command::Help => Ok(command::help(out)?),
     }
 }

@@ -22,7 +22,14 @@ fn put_built(
     rows: Rows,
 ) -> Result<(), Stop> {
     match asked.command {
-        Command::At => show_row::show_codes(rt, out, asked.second(), asked.end, reading, rows),
+        Some(Command::At) => show_row::show_codes(
+            rt,
+            out,
+            asked.second(),
+            asked.end,
+            reading,
+            rows,
+        ),
         _ => Ok(show_row::show_rows(out, rows)?),
     }
 }

@@ -81,10 +81,10 @@ impl Command {
     }
 }
 
-// What is asked: the command, the place of the first argument behind it, and how many arguments there are in all.
+// What is asked: the command, none where the word names none, the place of the first argument behind it, and how many arguments there are in all.
 #[derive(Clone, Copy)]
 pub struct Asked {
-    pub command: Command,
+    pub command: Option<Command>,
     pub first: usize,
     pub end: usize,
 }
@@ -121,26 +121,19 @@ fn arguments_in_all(rt: &impl Env) -> usize {
     usize::MAX
 }
 
-// The command that stands at a place, with no argument: help. Where it cannot be obeyed, that is said.
-pub fn asked_at<R: Env + ErrorStream>(rt: &R, i: usize) -> Result<Asked, Stop> {
+// The command that stands at a place, with no argument: help.
+pub fn asked_at(rt: &impl Env, i: usize) -> Asked {
     let end = arguments_in_all(rt);
-    if end <= i {
-        return Ok(Asked {
-            command: Command::Help,
-            first: end,
-            end,
-        });
-    }
-    let named = Command::named(say::argument(rt, i, &mut say::word()));
-    let command = named.ok_or_else(|| unknown(rt, i))?;
-    let asked = Asked {
-        command,
-        first: i + 1,
-        end,
+    let command = if end <= i {
+        Some(Command::Help)
+    } else {
+        Command::named(say::argument(rt, i, &mut say::word()))
     };
-    are_enough(rt, asked)?;
-    are_right(rt, asked)?;
-    Ok(asked)
+    Asked {
+        command,
+        first: i.saturating_add(1),
+        end,
+    }
 }
 
 // ---- what cannot be obeyed
@@ -161,9 +154,7 @@ fn misused(rt: &impl ErrorStream, what: &[u8], command: Command) -> Stop {
     Stop::Refused
 }
 
-fn are_enough(rt: &impl ErrorStream, asked: Asked) -> Result<(), Stop> {
-    let command = asked.command;
-    let given = asked.end.saturating_sub(asked.first);
+fn are_enough(rt: &impl ErrorStream, command: Command, given: usize) -> Result<(), Stop> {
     match given.cmp(&command.arguments()) {
         Ordering::Less => Err(misused(rt, b"an argument is missing", command)),
         Ordering::Greater if command != Command::At => {
@@ -210,11 +201,28 @@ fn is_elsewhere<R: Env + ErrorStream>(rt: &R, asked: Asked) -> Result<(), Stop> 
     Ok(())
 }
 
-fn are_right<R: Env + ErrorStream>(rt: &R, asked: Asked) -> Result<(), Stop> {
-    match asked.command {
+fn are_right<R: Env + ErrorStream>(rt: &R, command: Command, asked: Asked) -> Result<(), Stop> {
+    match command {
         Command::At => are_codes(rt, asked),
         Command::Pack => is_elsewhere(rt, asked),
         Command::Unk => is_read_once(rt, asked),
         Command::Check | Command::Show | Command::Unpack | Command::Help => Ok(()),
     }
+}
+
+// Without any argument nothing stands behind the command either.
+fn can_obey<R: Env + ErrorStream>(rt: &R, asked: Asked) -> Result<(), Stop> {
+    let command = asked
+        .command
+        .ok_or_else(|| unknown(rt, asked.first.saturating_sub(1)))?;
+    if asked.first <= asked.end {
+        are_enough(rt, command, asked.end - asked.first)?;
+        are_right(rt, command, asked)?;
+    }
+    Ok(())
+}
+
+// Whether what is asked can be obeyed; if not, that is said.
+pub fn is_well_asked<R: Env + ErrorStream>(rt: &R, asked: Asked) -> bool {
+    can_obey(rt, asked).is_ok()
 }

@@ -18,7 +18,7 @@ const OUT_ROOM: usize = 65536;
 
 // A pack or a text, by the command.
 fn read(
-    command: Command,
+    command: Option<Command>,
     text: &[u8],
     names: &mut [u8],
     categories: &mut [u8],
@@ -27,7 +27,7 @@ fn read(
     references: &mut [u8],
 ) -> Result<Counts, Refusal> {
     match command {
-        Command::Unpack => {
+        Some(Command::Unpack) => {
             pack::read_pack(text, names, categories, definitions, ranges, references)
         }
         _ => char_def::parse(text, names, categories, definitions, ranges, references),
@@ -76,8 +76,11 @@ fn obey<R: Env + ErrorStream + Files + Input>(
     out: &mut impl Write,
     at: usize,
 ) -> Result<(), Stop> {
-    let asked = command::asked_at(rt, at)?;
-    if asked.command == Command::Help {
+    let asked = command::asked_at(rt, at);
+    if !command::is_well_asked(rt, asked) {
+        return Err(Stop::Refused);
+    }
+    if asked.command == Some(Command::Help) {
         return Ok(command::help(out)?);
     }
     let mut room = [0u8; TEXT_ROOM];
