@@ -44,7 +44,7 @@ fn meaning(number: u32) -> &'static str {
 
 // What the place of a refusal counts, by its number. An editor needs the line of a bad byte too.
 #[derive(Clone, Copy)]
-enum Place {
+pub enum Place {
     Line(usize),
     Byte { line: usize, byte: usize },
     Bit(usize),

@@ -85,6 +85,9 @@ fn put_code_at(
     }
 }
 
+// What an argument that is no code is looked up as: no scalar value.
+const OUTSIDE: u32 = 0xFFFFFFFF;
+
 // The arguments from the first up to the end are codes. One that is refused does not keep those behind it from being answered.
 pub fn show_codes(
     rt: &impl Env,
@@ -96,12 +99,11 @@ pub fn show_codes(
 ) -> Result<(), Stop> {
     let mut all = Ok(());
     for i in first..end {
-        if let Some(code) = code::code_at(rt, i) {
-            match put_code_at(rt, out, i, code, reading, rows) {
-                Ok(()) => {}
-                Err(Stop::Refused) => all = Err(Stop::Refused),
-                Err(lost) => return Err(lost),
-            }
+        let code = code::code_at(rt, i).unwrap_or(OUTSIDE);
+        match put_code_at(rt, out, i, code, reading, rows) {
+            Ok(()) => {}
+            Err(Stop::Refused) => all = Err(Stop::Refused),
+            Err(lost) => return Err(lost),
         }
     }
     all
