@@ -15,8 +15,8 @@ returns-in_default c =
 
 pub returns : goal.returns
 returns c =
-    let (w₁, h₁) = c.in_ok-name.ensures in
-    let (w₂, h₂) = c.in_ok-invoke.ensures in
-    let (w₃, h₃) = c.in_ok-group.ensures in
-    let (w₄, h₄) = c.in_ok-length.ensures in
-    record { words = a_word w₁ h₁ (a_word w₂ h₂ (a_word w₃ h₃ (a_word w₄ h₄ c.in-None.ensures))); name = word_place w₁ }
+    let (u₁, k₁) = c.in_ok-name.ensures in
+    let (u₂, k₂) = c.in_ok-invoke.ensures in
+    let (u₃, k₃) = c.in_ok-group.ensures in
+    let (u₄, k₄) = c.in_ok-length.ensures in
+    record { words = a_word u₁ k₁ (a_word u₂ k₂ (a_word u₃ k₃ (a_word u₄ k₄ c.in-None.ensures))); name = word_place u₁ }
