@@ -29,6 +29,8 @@ fn names_inside(names: &[u8], categories: &[u8], count: usize) -> bool
 
 // The lowest number with that name, where no category's name runs past the store. Each slot is read by itself, so that no look asks again whether it
 // lies in the table.
+// Not inlined: among all that the reader of unk.def keeps at hand its counter would stand in memory.
+#[inline(never)]
 fn find_placed(names: &[u8], categories: &[u8], count: usize, name: &[u8]) -> Option<usize>
     requires count_in_bounds { name_slot_size * count ≤ length categories.now }
     requires count_value { any (past_store names.now) (name_slots_of categories.now count) ≡ false }
