@@ -131,7 +131,7 @@ pub fn asked_at(rt: &impl Env, i: usize) -> Asked {
     };
     Asked {
         command,
-        first: i.saturating_add(1),
+        first: i.wrapping_add(1),
         end,
     }
 }
@@ -214,7 +214,7 @@ fn are_right<R: Env + ErrorStream>(rt: &R, command: Command, asked: Asked) -> Re
 fn can_obey<R: Env + ErrorStream>(rt: &R, asked: Asked) -> Result<(), Stop> {
     let command = asked
         .command
-        .ok_or_else(|| unknown(rt, asked.first.saturating_sub(1)))?;
+        .ok_or_else(|| unknown(rt, asked.first.wrapping_sub(1)))?;
     if asked.first <= asked.end {
         are_enough(rt, command, asked.end - asked.first)?;
         are_right(rt, command, asked)?;

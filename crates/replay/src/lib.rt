@@ -11,7 +11,7 @@ pub mod tally;
 pub mod texts;
 pub mod words;
 
-ghost use Rattle.std.specs.Prelude.{◌-◌, ◌<◌, ◌≤◌, length};
+ghost use Rattle.std.specs.Prelude.{◌≡◌, ◌<◌, ◌≤◌, length, take, drop};
 ghost use Rattle.replay.specs.Counts.{IsPrefixLen};
 
 // Larger than every number of a list; what would pass it stays.
@@ -37,15 +37,15 @@ fn is_gap(b: u8) -> bool {
 
 // The list from a place on.
 fn rest_of<'a>(list: &'a [u8], at: usize) -> &'a [u8]
-    ensures { length result.now ≤ length list.now - at }
+    ensures { result.now ≡ drop at list.now }
 {
     list.get(at..).unwrap_or(b"")
 }
 
-// The field that begins at a place.
+// The field that begins at a place: what stands there in the list.
 pub fn field_at<'a>(list: &'a [u8], at: usize) -> Field<'a>
     ensures onward { result.next ≤ length list.now }
-    ensures inside { length result.text.now ≤ length list.now }
+    ensures inside { result.text.now ≡ take (length result.text.now) (drop at list.now) }
 {
     let rest = rest_of(list, at);
     match rest.iter().position(|b| is_gap(*b)) {

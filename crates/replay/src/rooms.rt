@@ -113,7 +113,7 @@ fn leaves_alone(number: u64) -> bool {
 
 // A room is as the item at a place says: left alone or zero where it refuses, the table where it has one, whose field
 // begins at `table`, and the guard always left alone.
-pub fn room_agrees(list: &[u8], at: usize, table: usize, room: &[u8]) -> bool {
+fn is_as_said(list: &[u8], at: usize, table: usize, room: &[u8]) -> bool {
     let (body, guard) = parted(room);
     if !is_all(guard, FILL) {
         return false;
@@ -126,6 +126,11 @@ pub fn room_agrees(list: &[u8], at: usize, table: usize, room: &[u8]) -> bool {
     }
 }
 
+// One room is as the item at a place says, which has its table so many fields behind it.
+pub fn room_agrees(list: &[u8], at: usize, table: usize, room: &[u8]) -> bool {
+    is_as_said(list, at, field_behind(list, at, table), room)
+}
+
 // All rooms are as the item at a place says, which has the sum over them so many fields behind it, but for a refusal.
 pub fn rooms_agree(list: &[u8], at: usize, sum_field: usize, rooms: &[&[u8]]) -> bool {
     let refused = byte_at(list, at) == b'r';
@@ -134,7 +139,7 @@ pub fn rooms_agree(list: &[u8], at: usize, sum_field: usize, rooms: &[&[u8]]) ->
     let mut sum = sums::START;
     for room in rooms {
         table = after_field(list, table);
-        if !room_agrees(list, at, table, room) {
+        if !is_as_said(list, at, table, room) {
             return false;
         }
         if !refused {
