@@ -128,7 +128,13 @@ fn is_as_said(list: &[u8], at: usize, table: usize, room: &[u8]) -> bool {
 
 // One room is as the item at a place says, which has its table so many fields behind it.
 pub fn room_agrees(list: &[u8], at: usize, table: usize, room: &[u8]) -> bool {
-    is_as_said(list, at, field_behind(list, at, table), room)
+    let has_table = byte_at(list, at) == b'w';
+    let field = if has_table {
+        field_behind(list, at, table)
+    } else {
+        at
+    };
+    is_as_said(list, at, field, room)
 }
 
 // All rooms are as the item at a place says, which has the sum over them so many fields behind it, but for a refusal.
