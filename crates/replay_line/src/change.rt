@@ -101,7 +101,7 @@ pub fn damage(reading: &mut [u8], c: Option<Change>) {
 }
 
 // The change of a table that is built: its entry becomes what the new value gives.
-fn put<T: Copy, F: FnOnce(u64) -> T>(room: &mut [T], which: usize, c: Option<Change>, low: F)
+pub fn put<T: Copy, F: FnOnce(u64) -> T>(room: &mut [T], which: usize, c: Option<Change>, low: F)
     requires { F.IsAlwaysCallable low }
 {
     let Some(Change::Entry { table, at, value }) = c else {

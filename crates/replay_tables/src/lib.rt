@@ -128,3 +128,34 @@ pub fn handed(
     let next = numbers::noted(rt, list, first, &handed, c.is_some(), number, tally)?;
     rowed(rt, list, next, &handed, c, number, tally)
 }
+
+#[cfg(test)]
+mod tests {
+    use replay_line::change::{self, Change};
+
+    // What no line asks for: numbers of a byte, and the fifth entry of a room of four.
+    #[test]
+    fn puts_one_entry_of_any_width(rt: HostRuntime) {
+        let entry = |at| Some(Change::Entry {
+            table: change::FLAT,
+            at,
+            value: 259,
+        });
+        let cut = Some(Change::Length {
+            table: change::FLAT,
+            size: 2,
+        });
+        let cases = [
+            (change::FLAT, entry(2), [7, 7, 3, 7]),
+            (change::FLAT, entry(4), [7; 4]),
+            (change::INDEX, entry(2), [7; 4]),
+            (change::FLAT, cut, [7; 4]),
+            (change::FLAT, None, [7; 4]),
+        ];
+        for (which, c, want) in cases {
+            let mut room = [7u8; 4];
+            change::put(&mut room, which, c, |n| (n % 256) as u8);
+            assert_eq!(rt; room, want);
+        }
+    }
+}
