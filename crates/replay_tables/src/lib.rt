@@ -139,14 +139,14 @@ mod tests {
         let entry = |at| Some(Change::Entry {
             table: change::FLAT,
             at,
-            value: 259,
+            value: 261,
         });
         let cut = Some(Change::Length {
             table: change::FLAT,
             size: 2,
         });
         let cases = [
-            (change::FLAT, entry(2), [7, 7, 3, 7]),
+            (change::FLAT, entry(2), [7, 7, 5, 7]),
             (change::FLAT, entry(4), [7; 4]),
             (change::INDEX, entry(2), [7; 4]),
             (change::FLAT, cut, [7; 4]),
